@@ -2,5 +2,7 @@
 #![tactic(auto)]
 
 mod geometry;
+mod outside;
 
 pub use geometry::Geometry;
+pub use outside::{Failed, ReadFault, Sink, Source};

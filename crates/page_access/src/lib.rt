@@ -4,7 +4,11 @@
 mod geometry;
 mod loads;
 mod outside;
+mod sinks;
+mod sources;
 
 pub use geometry::Geometry;
 pub use loads::{load, read_front};
 pub use outside::{Failed, ReadFault, Sink, Source};
+pub use sinks::MemFail;
+pub use sources::MemSource;

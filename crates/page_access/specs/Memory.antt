@@ -35,6 +35,10 @@ pub record SureState : Type 0 where
   pub name : Option (List ℕ)
   pub reads : ℕ
 
+-- such a source that has not been called
+abbrev pub sure_source : List ℕ → SureState
+sure_source bytes = record { bytes = bytes; name = None; reads = 0 }
+
 -- zeros but for the pages, each with its number from 1, of a source of this length
 pub record SparseState : Type 0 where
   pub length : ℕ
@@ -42,6 +46,10 @@ pub record SparseState : Type 0 where
   pub pages : List (ℕ × List ℕ)
   pub name : Option (List ℕ)
   pub reads : ℕ
+
+-- such a source that has not been called
+abbrev pub sparse_source : ℕ → ℕ → List (ℕ × List ℕ) → SparseState
+sparse_source length page_size pages = record { length = length; page_size = page_size; pages = pages; name = None; reads = 0 }
 
 -- byte k: that of its page where the page is there, else 0
 abbrev pub sparse_byte : ℕ → List (ℕ × List ℕ) → ℕ → ℕ

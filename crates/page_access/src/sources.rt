@@ -121,6 +121,81 @@ impl Source for MemSource {
     }
 }
 
+/// A source of bytes in memory of which no call fails.
+#[derive(Drop)]
+pub struct SureSource {
+    bytes: Vec<u8>,
+    name: Option<String>,
+    reads: u64,
+}
+
+impl Model for SureSource {
+    ghost use Rattle.std.specs.Prelude.{string_bytes};
+    ghost use Rattle.std.specs.Option.{option_map};
+    ghost use Rattle.page_access.specs.Memory.{SureState};
+
+    ghost Value = { SureState };
+
+    ghost view = { λ s. record { bytes = s.bytes.items; name = option_map string_bytes s.name; reads = s.reads } };
+}
+
+impl SureSource {
+    ghost use Rattle.page_access.specs.Memory.{sure_source};
+
+    /// A source of these bytes.
+    pub fn new(bytes: Vec<u8>) -> SureSource
+        ensures { result ≡ sure_source bytes.items }
+    {
+        SureSource {
+            bytes,
+            name: None,
+            reads: 0,
+        }
+    }
+
+    /// The number of calls of `read_at`.
+    pub fn reads(&self) -> u64
+        ensures { result ≡ self.now.reads }
+    {
+        self.reads
+    }
+}
+
+impl Source for SureSource {
+    ghost bytes = { λ s. Some s.bytes };
+
+    ghost attached = { λ s. s.name };
+
+    ghost faults = { λ _. 0 };
+
+    ghost reads = { λ s. s.reads };
+
+    fn attach(&mut self, name: String) -> Result<(), Failed>
+        ensures succeeds { IsOk result }
+        ensures state { self.new ≡ record self.old { name = Some (string_bytes name) } }
+    {
+        self.name = Some(name);
+        Ok(())
+    }
+
+    fn length(&mut self) -> Result<u64, Failed>
+        ensures succeeds { IsOk result }
+        ensures value { IfOk result (λ n. n ≡ length self.old.bytes) }
+        ensures state { self.new ≡ self.old }
+    {
+        Ok(self.bytes.len() as u64)
+    }
+
+    fn read_at(&mut self, at: u64, to: &mut [u8]) -> Result<usize, Failed>
+        ensures succeeds { IsOk result }
+        ensures value { IfOk result (λ n. ReadsAt self.old.bytes at n to.new) }
+        ensures state { self.new ≡ record self.old { reads = counted self.old.reads } }
+    {
+        self.reads = counted(self.reads);
+        Ok(copy_at(&self.bytes, at, to))
+    }
+}
+
 // Whether the call is one of those that are named.
 fn is_among(named: &[u64], call: u64) -> bool
     ensures { result ≡ list_any (λ n. n == call) named.now }

@@ -92,3 +92,15 @@ is_refused s piece = is_past s piece || is_some (named_keep s)
 -- what a put of the piece adds
 abbrev pub kept : SinkState → List ℕ → List ℕ
 kept s piece = if is_past s piece then [] else take (unwrap_or (named_keep s) (length piece)) piece
+
+-- a sink with room for so many bytes, which alone makes a call fail
+pub record SureSinkState : Type 0 where
+  pub bytes : List ℕ
+  pub room : ℕ
+  pub name : Option (List ℕ)
+  pub finished : Bool
+  pub faults : ℕ
+
+-- such a sink that has not been called
+abbrev pub sure_sink : ℕ → SureSinkState
+sure_sink room = record { bytes = []; room = room; name = None; finished = false; faults = 0 }

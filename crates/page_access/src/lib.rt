@@ -10,5 +10,5 @@ mod sources;
 pub use geometry::Geometry;
 pub use loads::{load, read_front};
 pub use outside::{Failed, ReadFault, Sink, Source};
-pub use sinks::{MemFail, MemSink};
+pub use sinks::{MemFail, MemSink, SureSink};
 pub use sources::{MemSource, SureSource};

@@ -1,6 +1,7 @@
 //! Sinks in memory.
-ghost use Rattle.std.specs.Prelude.{◌≡◌, ◌≤◌, ◌↔◌, ◌==◌, ◌++◌, List, length, Option, Some, None, Bool, true, false, IsTrue, IsErr, IsSome, IsOk, IfOk, OnOk, OnErr, string_bytes, is_some, find};
+ghost use Rattle.std.specs.Prelude.{◌≡◌, ◌≤◌, ◌↔◌, ◌==◌, ◌++◌, ◌+◌, ◌<◌, List, length, Option, Some, None, Bool, true, false, IsTrue, IsErr, IsSome, IsOk, IfOk, OnOk, OnErr, string_bytes, is_some, find};
 ghost use Rattle.std.specs.Option.{option_map};
+ghost use Rattle.page_access.specs.Memory.{counted};
 ghost use Rattle.page_access.specs.Outside.{HasCause, Writes};
 
 use crate::sources::counted;
@@ -156,4 +157,100 @@ fn keep_of(fails: &[MemFail], call: u64) -> Option<u64>
     ensures { result ≡ option_map (λ (f : MemFail). f.keep) (find (λ (f : MemFail). f.call == call) fails.now) }
 {
     fails.iter().find(|f| f.call == call).map(|f| f.keep)
+}
+
+/// A sink in memory with room for so many bytes. A `put` that would pass the room fails and keeps
+/// nothing; no other call fails.
+#[derive(Drop)]
+pub struct SureSink {
+    bytes: Vec<u8>,
+    room: u64,
+    name: Option<String>,
+    finished: bool,
+    faults: u64,
+}
+
+impl Model for SureSink {
+    ghost use Rattle.std.specs.Prelude.{◌≤◌, string_bytes, length, vec_capacity};
+    ghost use Rattle.std.specs.Option.{option_map};
+    ghost use Rattle.page_access.specs.Memory.{SureSinkState};
+
+    ghost Value = { SureSinkState };
+
+    ghost view = { λ s. record {
+      bytes = s.bytes.items;
+      room = s.room;
+      name = option_map string_bytes s.name;
+      finished = s.finished;
+      faults = s.faults;
+    } };
+
+    ghost invariant = { λ s. (length s.bytes.items ≤ s.room) × (s.room ≤ vec_capacity s.bytes) };
+}
+
+impl SureSink {
+    ghost use Rattle.page_access.specs.Memory.{sure_sink};
+
+    /// A sink with room for so many bytes, all of it reserved at once.
+    pub fn new(alloc: Global, room: u64) -> Result<SureSink, AllocError>
+        ensures { IfOk result (λ s. s ≡ sure_sink room) }
+    {
+        Ok(SureSink {
+            bytes: Vec::with_capacity(alloc, room as usize)?,
+            room,
+            name: None,
+            finished: false,
+            faults: 0,
+        })
+    }
+
+    /// The bytes that it holds.
+    pub fn bytes(&self) -> &[u8]
+        ensures { result.now ≡ self.now.bytes }
+    {
+        &self.bytes
+    }
+}
+
+impl Sink for SureSink {
+    ghost bytes = { λ s. Some s.bytes };
+
+    ghost created = { λ s. s.name };
+
+    ghost finished = { λ s. s.finished };
+
+    ghost faults = { λ s. s.faults };
+
+    fn create(&mut self, name: String) -> Result<(), Failed>
+        ensures succeeds { IsOk result }
+        ensures state { self.new ≡ record self.old { name = Some (string_bytes name); finished = false } }
+    {
+        self.finished = false;
+        self.name = Some(name);
+        Ok(())
+    }
+
+    fn put(&mut self, piece: &[u8]) -> Result<(), Failed>
+        ensures exactly { IsErr result ↔ (self.old.room < length self.old.bytes + length piece.now) }
+        ensures ok { OnOk result (self.new ≡ record self.old
+            { bytes = self.old.bytes ++ piece.now; finished = false }) }
+        ensures err { OnErr result (self.new ≡ record self.old
+            { faults = counted self.old.faults; finished = false }) }
+    {
+        self.finished = false;
+        if self.room - (self.bytes.len() as u64) < piece.len() as u64 {
+            self.faults = counted(self.faults);
+            return Err(Failed);
+        }
+        self.bytes.extend_from_slice(piece).unwrap();
+        Ok(())
+    }
+
+    fn finish(&mut self) -> Result<(), Failed>
+        ensures succeeds { IsOk result }
+        ensures state { self.new ≡ record self.old { finished = true } }
+    {
+        self.finished = true;
+        Ok(())
+    }
 }

@@ -1,7 +1,8 @@
 -- Sources and sinks in memory (docs/FORMAT.md, "The outside"): what each is seen as.
-use Rattle.std.specs.Prelude.{ℕ, ◌+◌, ◌*◌, ◌-◌, ◌^◌, ◌/◌, ◌%◌, ◌==◌, Bool, true, false, nat_lt, if◌then◌else◌, List, [], ◌∷◌, ◌++◌, length, take, map, find, slice_index, Option, Some, None, unwrap_or, is_some, ◌||◌}
+use Rattle.std.specs.Prelude.{ℕ, ◌+◌, ◌*◌, ◌-◌, ◌^◌, ◌/◌, ◌%◌, ◌==◌, Bool, true, false, nat_lt, if◌then◌else◌, List, [], ◌∷◌, ◌++◌, length, take, map, find, slice_index, Option, Some, None, unwrap_or, is_some, ◌||◌, Vec}
 use Rattle.std.specs.List.{list_any, range_with_len}
 use Rattle.std.specs.Option.{option_map, option_map_or}
+use Rattle.std.specs.declared.alloc.Global.{Global}
 use Rattle.page_access.specs.declared.sinks.MemFail.{MemFail}
 
 -- one more, where a count stays at its last value
@@ -41,23 +42,28 @@ sure_source bytes = record { bytes = bytes; name = None; reads = 0 }
 
 -- zeros but for the pages, each with its number from 1, of a source of this length
 pub record SparseState : Type 0 where
-  pub length : ℕ
+  pub len : ℕ
   pub page_size : ℕ
-  pub pages : List (ℕ × List ℕ)
+  pub pages : List (ℕ × Vec ℕ Global)
   pub name : Option (List ℕ)
   pub reads : ℕ
 
 -- such a source that has not been called
-abbrev pub sparse_source : ℕ → ℕ → List (ℕ × List ℕ) → SparseState
-sparse_source length page_size pages = record { length = length; page_size = page_size; pages = pages; name = None; reads = 0 }
+abbrev pub sparse_source : ℕ → ℕ → List (ℕ × Vec ℕ Global) → SparseState
+sparse_source len page_size pages = record { len = len; page_size = page_size; pages = pages; name = None; reads = 0 }
 
--- byte k: that of its page where the page is there, else 0
-abbrev pub sparse_byte : ℕ → List (ℕ × List ℕ) → ℕ → ℕ
-sparse_byte size pages k = option_map_or (λ (page : ℕ × List ℕ). slice_index page.1 (k % size)) (find (λ page. page.0 == k / size + 1) pages) 0
+-- a byte of a page, or 0 where the page is not there
+abbrev pub page_byte : List (ℕ × Vec ℕ Global) → ℕ → ℕ → ℕ
+page_byte pages number offset =
+    option_map_or (λ (page : ℕ × Vec ℕ Global). slice_index page.1.items offset) (find (λ (page : ℕ × Vec ℕ Global). page.0 == number) pages) 0
+
+-- byte k of the source
+abbrev pub sparse_byte : ℕ → List (ℕ × Vec ℕ Global) → ℕ → ℕ
+sparse_byte size pages k = page_byte pages (k / size + 1) (k % size)
 
 -- all its bytes
-unfoldable pub sparse_bytes : SparseState → List ℕ
-sparse_bytes s = map (λ k. sparse_byte s.page_size s.pages k) (range_with_len 0 s.length)
+unfoldable pub sparse_bytes : ℕ → List (ℕ × Vec ℕ Global) → ℕ → List ℕ
+sparse_bytes size pages len = map (λ k. sparse_byte size pages k) (range_with_len 0 len)
 
 -- a sink with room for so many bytes, whose calls with the named numbers fail
 pub record SinkState : Type 0 where

@@ -1,0 +1,4 @@
+pub mod Cell
+pub mod Cover
+pub mod Inside
+pub mod Shape

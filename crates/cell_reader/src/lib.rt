@@ -1,0 +1,12 @@
+//! Pages of a tree and their cells: what a page is, where its cells stand, and which of them share
+//! no byte (docs/FORMAT.md, "Pages and cells").
+#![tactic(auto)]
+
+mod accepted;
+mod cells;
+mod parts;
+mod shapes;
+
+pub use accepted::Accepted;
+pub use cells::{CellFault, CellView, cell};
+pub use shapes::{Kind, PageShape, right_child, shape};

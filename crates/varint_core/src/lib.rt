@@ -1,0 +1,34 @@
+//! Varints: whole numbers below 2^64 in one to nine bytes (docs/FORMAT.md, "Varints").
+#![tactic(auto)]
+
+ghost use Rattle.std.specs.Prelude.{◌≡◌, ◌≤◌, ◌+◌, ◌↔◌, ℕ, List, ◌++◌, length, take, drop, IfSome, IsNone, Some};
+ghost use Rattle.varint_core.specs.Varint.{IsVarint, EndsInside, varint_at};
+
+/// The varint at a place in the bytes: its value, and its length of 1 to 9 bytes
+/// (fileformat2.html, 1.6). `None` where the bytes end inside it.
+pub fn read_varint(bytes: &[u8], at: usize) -> Option<(u64, usize)>
+    requires { at ≤ length bytes.now }
+    ensures exact { result ≡ varint_at (drop at bytes.now) }
+    ensures there { IfSome result (λ v. (1 ≤ v.1) × (v.1 ≤ 9) × (at + v.1 ≤ length bytes.now)) }
+{
+    varint_of(&bytes[at..])
+}
+
+// The varint that begins the bytes.
+#[tactic(auto, unfolding(crate::specs::Varint::varint_at))]
+fn varint_of(bytes: &[u8]) -> Option<(u64, usize)>
+    ensures exact { result ≡ varint_at bytes.now }
+    ensures there { IfSome result (λ v. (1 ≤ v.1) × (v.1 ≤ 9) × (v.1 ≤ length bytes.now)) }
+{
+    let mut high: u64 = 0;
+    for (k, byte) in bytes.iter().enumerate() {
+        if k == 8 {
+            return Some((high * 256 + u64::from(*byte), 9));
+        }
+        if *byte < 128 {
+            return Some((high * 128 + u64::from(*byte), k + 1));
+        }
+        high = high * 128 + u64::from(*byte % 128);
+    }
+    None
+}

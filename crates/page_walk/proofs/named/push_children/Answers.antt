@@ -1,0 +1,11 @@
+use Rattle.std.proofs.Common.{arith}
+use Rattle.page_walk.proofs.Names.{naming_start, naming_more, naming_end}
+use Rattle.page_walk.proofs.named.push_children.Goals as goal
+
+pub loop-i-init : goal.loop-i-init
+loop-i-init c = naming_start _ _ _ _ _ _ c.in_ok-accepted.ensures ?
+
+pub loop-i-preserved : goal.loop-i-preserved
+loop-i-preserved c =
+    naming_more _ _ _ _ _ _ _ _ _ _ c.accepted_child-child.result c.loop-i.invariant c.loop-i-test.true
+        c.screen.ensures.marked ? ? ? ?

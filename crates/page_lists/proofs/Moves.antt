@@ -1,12 +1,12 @@
 -- What a move of a page does to the lists.
-use Rattle.std.proofs.Common.{◌≡◌, ◌≢◌, ℕ, zero, suc, ◌+◌, ◌<◌, ◌≤◌, ◌⊎◌, Bool, true, false, ◌||◌, ◌==◌, if◌then◌else◌, List, [], ◌∷◌, ◌++◌, length, map, set, get_or, replicate, nat_le, refl, sym, ap, ◌∙◌, subst, inl, inr, arith, length-append}
-use Rattle.std.proofs.lemmas.Bool.{false≢true, and_from, and_left, and_right, and_parts, cases_lt, leb-true, le-leb, lt-leb, ne_eqb}
+use Rattle.std.proofs.Common.{◌≡◌, ℕ, zero, suc, ◌+◌, ◌<◌, ◌≤◌, true, false, ◌||◌, ◌==◌, if◌then◌else◌, List, [], ◌∷◌, ◌++◌, length, map, set, replicate, nat_le, refl, sym, ap, ◌∙◌, inl, inr, arith}
+use Rattle.std.proofs.lemmas.Bool.{and_from, and_left, and_right, cases_lt, le-leb, lt-leb, ne_eqb}
 use Rattle.std.proofs.lemmas.Bool.Decides.{eqb_tells}
-use Rattle.std.proofs.lemmas.List.{length-map, length-set, get_or-set_other, append-nil}
+use Rattle.std.proofs.lemmas.List.{length-map, length-set, append-nil}
 use Rattle.std.specs.List.{concat, range_with_len}
-use Rattle.page_lists.specs.Lists.{IsPartOf, is_in, count, without, minus}
-use Rattle.page_lists.specs.Table.{Table, IsPartition, Moves, is_page, list_at, fresh, unused, owner, moved_in, moved, all_moved}
-use Rattle.page_lists.proofs.Counts.{IsMeasure, counts, lengths, count-append, in_head, in_or_not, count_in, count_not_in, in_from_count, not_in_from_count, without_not_in, measure-without, is_in-without-other, is_in-append, measure-minus, count-minus, minus-append, part_append, part_none, part_one}
+use Rattle.page_lists.specs.Lists.{is_in, count, without}
+use Rattle.page_lists.specs.Table.{Table, IsPartition, is_page, list_at, fresh, owner, moved_in, moved}
+use Rattle.page_lists.proofs.Counts.{IsMeasure, counts, count-append, in_head, in_or_not, count_in, in_from_count, not_in_from_count, without_not_in, measure-without, is_in-without-other, is_in-append}
 
 -- a page that no list has is taken out of none
 none_out : (p : ℕ) (lists : List (List ℕ)) → count p (concat lists) ≡ 0 → map (without p) lists ≡ lists

@@ -1,13 +1,13 @@
 -- Moves of pages out of list 0, one after another: which pages stay there, and which list has the others.
-use Rattle.std.proofs.Common.{◌≡◌, ◌≢◌, ℕ, zero, suc, ◌+◌, ◌<◌, ◌≤◌, true, false, ◌==◌, if◌then◌else◌, nat_le, List, [], ◌∷◌, ◌++◌, length, map, set, refl, sym, ap, ◌∙◌, subst, inl, inr, arith}
-use Rattle.std.proofs.lemmas.Bool.{false≢true, cases_lt, and_left, and_right, leb-true, lt-leb, eq-eqb, eqb-true, ne_eqb}
+use Rattle.std.proofs.Common.{◌≡◌, ◌≢◌, ℕ, zero, suc, ◌+◌, ◌<◌, ◌≤◌, true, false, ◌==◌, nat_le, List, [], ◌∷◌, ◌++◌, length, map, refl, sym, ap, ◌∙◌, subst, inl, inr, arith}
+use Rattle.std.proofs.lemmas.Bool.{false≢true, cases_lt, and_left, and_right, lt-leb, ne_eqb}
 use Rattle.std.proofs.lemmas.Bool.Decides.{eqb_tells}
 use Rattle.std.proofs.lemmas.List.{append_assoc, append-nil, length-map, get_or-set_same, get_or-set_other}
 use Rattle.std.specs.List.{concat}
 use Rattle.page_lists.specs.Lists.{IsPartOf, is_in, count, without, minus}
-use Rattle.page_lists.specs.Table.{Table, IsPartition, Moves, is_page, list_at, unused, owner, moved_in, moved, all_moved}
-use Rattle.page_lists.proofs.Counts.{in_or_not, in_part, in_head, count_in, count_not_in, not_in_from_count, without_not_in, count-append, count-minus, minus-append, part_append, part_none, part_one, part_rest}
-use Rattle.page_lists.proofs.Moves.{IsPartition-moved, length-moved, list_at_out, owner-moved, owner-moved-other, stands_once}
+use Rattle.page_lists.specs.Table.{Table, IsPartition, Moves, list_at, unused, owner, moved_in, moved, all_moved}
+use Rattle.page_lists.proofs.Counts.{in_or_not, in_part, in_head, count_in, not_in_from_count, without_not_in, count-append, count-minus, part_append, part_none, part_one, part_rest}
+use Rattle.page_lists.proofs.Moves.{IsPartition-moved, length-moved, list_at_out, owner-moved-other, stands_once}
 
 -- List 0 loses the page that moves to another list.
 pub unused-moved : (p l : ℕ) (t : Table) → 1 ≤ l → unused (moved p l t) ≡ without p (unused t)

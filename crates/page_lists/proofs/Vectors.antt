@@ -1,6 +1,6 @@
 -- The vectors that hold a table of page lists: what is read from them, and what a move writes.
-use Rattle.std.proofs.Common.{◌≡◌, ◌≢◌, ℕ, zero, suc, ◌+◌, ◌-◌, ◌^◌, ◌<◌, ◌≤◌, ◌⊎◌, Bool, true, false, ◌==◌, Option, Some, None, IfOk, All, List, [], ◌∷◌, ◌++◌, length, map, set, get_or, take, drop, replicate, slice_get, position, refl, sym, ap, ◌∙◌, subst, inl, inr, arith, length-append, Bor, Vec, Global, not, nat_lt, cond}
-use Rattle.std.proofs.lemmas.Bool.{lt-ltb, le-ltb, ltb-true, ltb-false}
+use Rattle.std.proofs.Common.{◌≡◌, ◌≢◌, ℕ, zero, suc, ◌+◌, ◌^◌, ◌<◌, ◌≤◌, Bool, true, false, ◌==◌, Option, Some, None, All, List, [], ◌∷◌, ◌++◌, length, map, set, get_or, take, drop, replicate, slice_get, position, refl, sym, ap, ◌∙◌, subst, inl, inr, arith, length-append, Bor, Vec, Global, nat_lt, cond}
+use Rattle.std.proofs.lemmas.Bool.{ltb-true, ltb-false}
 use Rattle.std.proofs.lemmas.Bool.Decides.{eqb_tells}
 use Rattle.std.proofs.lemmas.List.{length-map, length-set, length-replicate, map-set, map-id, map-append, replicate_more, take_all, drop_all, get_or-set_same, get_or-set_other, get_or_default, get_or-replicate, append-nil}
 use Rattle.std.proofs.lemmas.Option.{slice_get_past, slice_get-get_or}
@@ -9,11 +9,11 @@ use Rattle.std.proofs.lemmas.List.FromFn.{length-range_with_len, map-range_with_
 use Rattle.std.specs.List.{concat, range_with_len, position_or_len, remove}
 use Rattle.std.specs.Option.{option_copied, is_some, IfSome}
 use Rattle.std.specs.Vec.{vec_capacity, vec_len, with_item}
-use Rattle.page_lists.specs.Lists.{is_in, count, without, after}
-use Rattle.page_lists.specs.Table.{Table, IsPartition, is_page, list_at, owner, moved_in, moved, fresh}
+use Rattle.page_lists.specs.Lists.{count, without, after}
+use Rattle.page_lists.specs.Table.{Table, IsPartition, list_at, owner, moved_in, moved, fresh}
 use Rattle.page_lists.specs.Stored.{IsSound, table_of}
 use Rattle.page_lists.specs.declared.PageTable.TheInside.{Inside}
-use Rattle.page_lists.proofs.Counts.{counts, lengths, in_or_not, count-append, count_in, in_head, in_from_count, count_not_in}
+use Rattle.page_lists.proofs.Counts.{lengths}
 use Rattle.page_lists.proofs.Moves.{IsPartition-fresh, fresh_pages, owner-fresh, IsPartition-moved, out_of_owner, owner_below, list_at_out, measure_out, measure-moved, owner-moved, owner-moved-other, stands_once}
 
 -- one page more of a row of pages

@@ -1,4 +1,4 @@
-use Rattle.std.proofs.Common.{rules, ◌≡◌, ◌+◌, slice_get, sym, ◌∙◌}
+use Rattle.std.proofs.Common.{◌≡◌, ◌+◌, slice_get, sym, ◌∙◌}
 use Rattle.page_lists.specs.Lists.{after}
 use Rattle.page_lists.proofs.Vectors.{after_at, after_nowhere, got}
 use Rattle.page_lists.proofs.page_after.Goals as goal

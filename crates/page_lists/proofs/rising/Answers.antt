@@ -1,4 +1,4 @@
-use Rattle.std.proofs.Common.{◌≡◌, ℕ, List, ◌+◌, ◌∷◌, [], ◌++◌, sym, ◌∙◌, ap, arith}
+use Rattle.std.proofs.Common.{ℕ, List, ◌+◌, ◌∷◌, [], ◌++◌, sym, ◌∙◌, ap, arith}
 use Rattle.page_lists.proofs.Vectors.{range_more}
 use Rattle.page_lists.proofs.rising.Goals as goal
 

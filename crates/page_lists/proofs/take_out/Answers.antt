@@ -1,4 +1,4 @@
-use Rattle.std.proofs.Common.{◌≡◌, rules, refl, sym, ◌∙◌, subst, List, ℕ, Option, Some, None, position, ◌==◌}
+use Rattle.std.proofs.Common.{◌≡◌, sym, ◌∙◌, Some, None, position, ◌==◌}
 use Rattle.page_lists.proofs.Vectors.{without_at, without_nowhere}
 use Rattle.page_lists.proofs.take_out.Goals as goal
 

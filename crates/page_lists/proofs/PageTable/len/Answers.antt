@@ -1,4 +1,4 @@
-use Rattle.std.proofs.Common.{rules, ℕ, ◌<◌, ◌^◌, length, sym, subst}
+use Rattle.std.proofs.Common.{rules, ◌<◌, ◌^◌, length, sym, subst}
 use Rattle.std.proofs.lemmas.List.{length-map}
 use Rattle.page_lists.specs.Table.{Table}
 use Rattle.page_lists.proofs.Vectors.{length_read}

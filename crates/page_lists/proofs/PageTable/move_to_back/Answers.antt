@@ -1,7 +1,6 @@
-use Rattle.std.proofs.Common.{◌≡◌, ℕ, ◌≤◌, ◌<◌, sym, ap, ◌∙◌, subst, arith}
-use Rattle.page_lists.specs.Table.{Table, IsPartition, moved}
-use Rattle.page_lists.specs.Stored.{table_of}
-use Rattle.page_lists.proofs.Vectors.{Step, step_of, owner_read, owner_in, into_short, sound_after, value_after}
+use Rattle.std.proofs.Common.{◌≤◌, sym, ap, ◌∙◌, subst, arith}
+use Rattle.page_lists.specs.Table.{Table, moved}
+use Rattle.page_lists.proofs.Vectors.{step_of, owner_read, owner_in, into_short, sound_after, value_after}
 use Rattle.page_lists.proofs.PageTable.move_to_back.Goals as goal
 
 pub index_mut-requires : goal.index_mut-requires

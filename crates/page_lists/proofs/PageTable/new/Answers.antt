@@ -1,9 +1,7 @@
-use Rattle.std.proofs.Common.{rules, ◌≡◌, ℕ, ◌+◌, ◌-◌, ◌≤◌, ◌<◌, ◌^◌, List, [], ◌∷◌, ◌++◌, All, length, map, replicate, refl, sym, ap, ◌∙◌, subst, arith, Vec, Global}
+use Rattle.std.proofs.Common.{◌≡◌, ℕ, ◌+◌, ◌-◌, ◌≤◌, List, [], ◌∷◌, replicate, refl, ap, ◌∙◌, arith}
 use Rattle.std.proofs.lemmas.List.Elements.{All-push, All-nil}
 use Rattle.std.specs.List.{range_with_len}
 use Rattle.std.specs.Vec.{vec_capacity}
-use Rattle.page_lists.specs.Table.{Table, IsPartition, fresh}
-use Rattle.page_lists.specs.Stored.{table_of}
 use Rattle.page_lists.proofs.Moves.{IsPartition-fresh}
 use Rattle.page_lists.proofs.Vectors.{one_empty_more, sound_fresh}
 use Rattle.page_lists.proofs.PageTable.new.Goals as goal

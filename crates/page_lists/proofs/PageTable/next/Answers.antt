@@ -1,7 +1,6 @@
-use Rattle.std.proofs.Common.{rules, ◌≡◌, ℕ, ◌≤◌, ◌<◌, length, arith, sym, ap, ◌∙◌, subst}
+use Rattle.std.proofs.Common.{◌≡◌, ◌≤◌, arith, sym, ◌∙◌, subst}
 use Rattle.page_lists.specs.Lists.{after}
 use Rattle.page_lists.specs.Table.{Table, owner, list_at}
-use Rattle.page_lists.specs.Stored.{table_of}
 use Rattle.page_lists.proofs.Vectors.{owner_read, owner_in, after_read}
 use Rattle.page_lists.proofs.PageTable.next.Goals as goal
 

@@ -1,0 +1,4 @@
+pub mod Types
+pub mod Tally
+pub mod Fields
+pub mod Headers

@@ -83,7 +83,8 @@ set_mark m s e k lt le =
           ]
     ]
 
-length_set : (m : List Bool) (s e : ℕ) → s < e → e ≤ length m → length (with_range m s e) ≡ length m
+-- as many marks as before
+pub length_set : (m : List Bool) (s e : ℕ) → s < e → e ≤ length m → length (with_range m s e) ≡ length m
 length_set m s e lt le =
     omega (
       arith,
@@ -116,12 +117,12 @@ apart_all : (usable : ℕ) (v : CellView) (ws : List CellView) → v.start < v.e
 apart_all usable v [] lt good h = refl
 apart_all usable v (w ∷ ws) lt good h =
     let tail : list_all (are_apart v) ws ≡ true =
-    apart_all usable v ws lt good.1 (λ k a b. (or_false _ _ (h k a b)).1) in
+    apart_all usable v ws lt good.1 (λ k a b. (or_false (covers k w) (list_any (covers k) ws) (h k a b)).1) in
     elim (either (are_apart v w)) [
       | inl e ↦ rw (e, tail) refl
       | inr e ↦
           let hit = shared v w lt good.0.0 e in
-          let none : covers hit.0 w ≡ false = (or_false _ _ (h hit.0 hit.1 hit.2)).0 in
+          let none : covers hit.0 w ≡ false = (or_false (covers hit.0 w) (list_any (covers hit.0) ws) (h hit.0 hit.1 hit.2)).0 in
           let some : covers hit.0 w ≡ true = hit.3 in
           let bad : true ≡ false = sym some ∙ none in cc
     ]

@@ -1,5 +1,5 @@
 //! Pages are built by hand from fileformat2.html, 1.6.
-ghost use Rattle.std.specs.Prelude.{◌≤◌};
+ghost use Rattle.std.specs.Prelude.{◌≡◌, ◌≤◌};
 
 use crate::{Accepted, CellFault, CellView, Kind, cell, right_child, shape};
 use page_access::Geometry;
@@ -9,6 +9,7 @@ use std::test::Fail;
 fn geometry(usable: u32) -> Geometry
     requires least { 480 ≤ usable }
     requires most { usable ≤ 512 }
+    ensures { result.usable ≡ usable }
 {
     Geometry {
         page_size: 512,
@@ -53,8 +54,8 @@ fn local_and_missing(page: &[u8; 512], usable: u32) -> Option<(u64, u64)>
     requires most { usable ≤ 512 }
 {
     let view = first_cell(page, usable)?.ok()?;
-    let local = u64::from(view.local_end - view.local_start);
-    Some((local, view.total - local))
+    let local = u64::from(view.local_end.saturating_sub(view.local_start));
+    Some((local, view.total.saturating_sub(local)))
 }
 
 #[test]

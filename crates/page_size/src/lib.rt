@@ -1,0 +1,9 @@
+//! The page size of a file, and what its header says.
+#![tactic(auto)]
+
+mod finds;
+mod headers;
+mod scores;
+
+pub use finds::{Found, GeoFault, Origin};
+pub use headers::{Header, read_header};

@@ -30,14 +30,14 @@ count_next p a n before now below now_is =
 pub told_count : (o q : Option (List ℕ)) (size usable pages number before now : ℕ) (page : List ℕ) (found : Bool) → q ≡ o → number < pages + 1 →
     IfSome q (λ all. page ≡ page_of all size number) → found ≡ is_plausible page number usable pages → now ≡ before + (if found then 1 else 0) →
     IfSome o (λ all. before + count_by (λ p. is_plausible (page_of all size p) p usable pages) (range_with_len number (pages + 1 - number))
-      ≡ plausible_pages all size usable pages) →
+    ≡ plausible_pages all size usable pages) →
     IfSome o (λ all. now + count_by (λ p. is_plausible (page_of all size p) p usable pages) (range_with_len (number + 1) (pages + 1 - (number + 1)))
-      ≡ plausible_pages all size usable pages)
+    ≡ plausible_pages all size usable pages)
 told_count None q size usable pages number before now page found e below page_is found_is now_is counted = tt
 told_count (Some all) q size usable pages number before now page found e below page_is found_is now_is counted =
     let here : page ≡ page_of all size number = subst (λ (x : Option (List ℕ)). IfSome x (λ all. page ≡ page_of all size number)) e page_is in
     count_next (λ p. is_plausible (page_of all size p) p usable pages) number (pages + 1) before now below
-      (now_is ∙ ap (λ b. before + (if b then 1 else 0)) (found_is ∙ ap (λ t. is_plausible t number usable pages) here))
+    (now_is ∙ ap (λ b. before + (if b then 1 else 0)) (found_is ∙ ap (λ t. is_plausible t number usable pages) here))
     ∙ counted
 
 -- a test as a number
@@ -58,7 +58,7 @@ pub told_reads : (o q : Option (List ℕ)) (size pages number before here now : 
 told_reads None q size pages number before here now e below earlier later = tt
 told_reads (Some all) q size pages number before here now e below earlier later =
     let page : number * size ≤ length all → now ≤ here + 1
-          = subst (λ (x : Option (List ℕ)). IfSome x (λ all. number * size ≤ length all → now ≤ here + 1)) e later in
+    = subst (λ (x : Option (List ℕ)). IfSome x (λ all. number * size ≤ length all → now ≤ here + 1)) e later in
     λ whole.
-      let fits : number * size ≤ pages * size = mul-le-mul_right size (omega arith) in
-      omega (arith, page (omega (arith, fits)), earlier whole)
+    let fits : number * size ≤ pages * size = mul-le-mul_right size (omega arith) in
+    omega (arith, page (omega (arith, fits)), earlier whole)

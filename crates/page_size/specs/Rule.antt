@@ -1,6 +1,7 @@
 -- How the pages of a file are found (docs/FORMAT.md, "The page size").
-use Rattle.std.specs.Prelude.{◌≡◌, ℕ, ◌+◌, ◌-◌, ◌/◌, ◌==◌, nat_lt, nat_le, Bool, ◌&&◌, if◌then◌else◌, Option, Some, None, unwrap_or, is_none, Result, Ok, Err, List, length, ⊤}
+use Rattle.std.specs.Prelude.{◌≡◌, ℕ, ◌+◌, ◌-◌, ◌/◌, ◌≤◌, ◌==◌, IsTrue, nat_lt, nat_le, Bool, ◌&&◌, if◌then◌else◌, Option, Some, None, unwrap_or, is_none, Result, Ok, Err, List, length, ⊤}
 use Rattle.std.specs.Option.{option_map, option_or}
+use Rattle.page_access.specs.Pages.{is_page_size}
 use Rattle.page_size.specs.declared.headers.Header.{Header}
 use Rattle.page_size.specs.declared.finds.Origin.{Origin}
 use Rattle.page_size.specs.declared.finds.Origin.TheVariants.{Header as by_header, Pages as by_pages, Chosen}
@@ -8,6 +9,7 @@ use Rattle.page_size.specs.declared.finds.Found.{Found}
 use Rattle.page_size.specs.declared.finds.GeoFault.{GeoFault}
 use Rattle.page_size.specs.declared.finds.GeoFault.TheVariants.{NoPageSize, NoWholePage, Source, Memory}
 use Rattle.page_size.specs.declared.finds.Sizing.{Sizing}
+use Rattle.page_size.specs.declared.scores.Score.{Score}
 use Rattle.page_size.specs.Fields.{header_of}
 use Rattle.page_size.specs.Score.{ranking, winner}
 
@@ -34,7 +36,7 @@ given_sizing h None reserved =
 -- those that the scores give
 abbrev pub scored_sizing : List ℕ → Option ℕ → Option Sizing
 scored_sizing bytes reserved =
-    option_map (λ (p : ℕ × ℕ). record { size = p.0; reserved = unwrap_or reserved 0; origin = by_pages }) (winner (ranking bytes (unwrap_or reserved 0)))
+    option_map (λ (s : Score). record { size = s.size; reserved = unwrap_or reserved 0; origin = by_pages }) (winner (ranking bytes (unwrap_or reserved 0)))
 
 -- the sizes are scored: no option and no header gives one
 abbrev pub is_scored : List ℕ → Option ℕ → Option ℕ → Bool
@@ -70,6 +72,18 @@ finding f = record {
   origin = f.origin;
   header = f.header;
 }
+
+-- a size that a page may have, and reserved bytes that leave enough of it
+pub record IsUsable (size reserved : ℕ) : Type 0 where
+  pub valid : IsTrue (is_page_size size)
+  pub enough : reserved + 480 ≤ size
+
+-- bytes of this length, cut into pages of a size that they are not shorter than
+pub record IsCut (len size reserved page_size usable pages : ℕ) : Type 0 where
+  pub whole : size ≤ len
+  pub page_is : page_size ≡ size
+  pub usable_is : usable ≡ size - reserved
+  pub pages_is : pages ≡ len / size
 
 -- an answer is the rule's, but for a source that failed or want of memory
 abbrev pub IsByRule : Result Found GeoFault → Result Finding GeoFault → Type 0

@@ -5,6 +5,7 @@ use Rattle.page_access.specs.Pages.{page_sizes, page_of}
 use Rattle.cell_reader.specs.declared.shapes.PageShape.{PageShape}
 use Rattle.cell_reader.specs.Shape.{shape_of}
 use Rattle.cell_reader.specs.Cell.{cell_of}
+use Rattle.page_size.specs.declared.scores.Score.{Score}
 
 -- each cell of a page with this shape can be read
 abbrev pub are_read : List ℕ → ℕ → ℕ → PageShape → Bool
@@ -32,9 +33,9 @@ abbrev pub scored_sizes : ℕ → List ℕ
 scored_sizes reserved = filter (λ size. nat_le (reserved + 480) size) page_sizes
 
 -- each of these sizes with its score
-abbrev pub ranking : List ℕ → ℕ → List (ℕ × ℕ)
-ranking bytes reserved = map (λ size. (size, score bytes size reserved)) (scored_sizes reserved)
+abbrev pub ranking : List ℕ → ℕ → List Score
+ranking bytes reserved = map (λ size. record { size = size; pages = score bytes size reserved }) (scored_sizes reserved)
 
 -- the first size whose score is over 0 and no other score is higher: a tie goes to the smaller size
-abbrev pub winner : List (ℕ × ℕ) → Option (ℕ × ℕ)
-winner sizes = find (λ p. nat_lt 0 p.1 && list_all (λ q. nat_le q.1 p.1) sizes) sizes
+abbrev pub winner : List Score → Option Score
+winner scores = find (λ (s : Score). nat_lt 0 s.pages && list_all (λ (t : Score). nat_le t.pages s.pages) scores) scores

@@ -1,13 +1,13 @@
 -- The scores of page sizes.
-use Rattle.std.proofs.Common.{◌≡◌, ◌≤◌, ◌<◌, ◌∙◌, ℕ, suc, ◌+◌, ◌-◌, ◌/◌, Bool, true, if◌then◌else◌, List, [], ◌∷◌, ◌++◌, length, get_or, drop, All, Option, Some, None, IfSome, sym, ap, subst, refl, arith, add-one, append_assoc, drop-cons}
-use Rattle.std.specs.Prelude.{map, filter, nat_le, sum_by}
+use Rattle.std.proofs.Common.{◌≡◌, ◌≤◌, ◌<◌, ◌∙◌, ℕ, suc, ◌+◌, ◌-◌, ◌/◌, Bool, true, false, if◌then◌else◌, List, [], ◌∷◌, ◌++◌, length, get_or, drop, All, Option, Some, None, IfSome, sym, ap, subst, refl, arith, add-one, append_assoc, drop-cons}
+use Rattle.std.specs.Prelude.{map, filter, find, nat_le, sum_by}
 use Rattle.page_size.specs.declared.scores.Score.{Score}
 use Rattle.std.proofs.lemmas.List.Sums.{sum_by-cons, AllPass-from_list_all}
 use Rattle.std.proofs.lemmas.List.Elements.{All-push}
 use Rattle.std.proofs.lemmas.Bool.Decides.{nat_tests}
 use Rattle.page_access.specs.Pages.{page_sizes, is_page_size}
 use Rattle.page_size.specs.Rule.{IsCut, IsUsable}
-use Rattle.page_size.specs.Score.{plausible_pages, score}
+use Rattle.page_size.specs.Score.{plausible_pages, score, winner}
 
 -- the plausible pages of the cut are the score
 score_of-cut : (all : List ℕ) (len size reserved page_size usable pages n : ℕ) → IsCut len size reserved page_size usable pages →
@@ -108,3 +108,17 @@ usable_next reserved i pages before now below enough now_is earlier =
 -- the test that a size leaves enough
 pub passes : (reserved size : ℕ) → reserved + 480 ≤ size → nat_le (reserved + 480) size ≡ true
 passes reserved size enough = grind (arith, nat_tests)
+
+-- what holds of all elements holds of the one that is found
+All-find : {X : Type 0} (P : X → Type 0) (p : X → Bool) (xs : List X) → All P xs → IfSome (find p xs) P
+All-find P p [] all = tt
+All-find P p (x ∷ xs) all = chosen P (find p xs) (p x) (all 0 x (omega arith)) (All-find P p xs (λ k d below. all (suc k) d (omega arith)))
+  where
+    chosen : {X : Type 0} {x : X} (P : X → Type 0) (o : Option X) (b : Bool) → P x → IfSome o P → IfSome (if b then Some x else o) P
+    chosen P o true here later = here
+    chosen P o false here later = later
+
+-- the size that wins leaves enough
+pub winner_usable : (reserved : ℕ) (scores : List Score) (s : Score) → winner scores ≡ Some s → All (λ (t : Score). IsUsable t.size reserved) scores → IsUsable s.size reserved
+winner_usable reserved scores s won all =
+    subst (λ (o : Option Score). IfSome o (λ (t : Score). IsUsable t.size reserved)) won (All-find (λ (t : Score). IsUsable t.size reserved) _ scores all)

@@ -2,6 +2,8 @@
 use Rattle.std.specs.Prelude.{◌≡◌, ℕ, ◌+◌, ◌-◌, ◌/◌, ◌≤◌, ◌==◌, IsTrue, nat_lt, nat_le, Bool, ◌&&◌, if◌then◌else◌, Option, Some, None, unwrap_or, is_none, Result, Ok, Err, List, length, ⊤}
 use Rattle.std.specs.Option.{option_map, option_or}
 use Rattle.page_access.specs.Pages.{is_page_size}
+use Rattle.page_access.specs.declared.outside.ReadFault.{ReadFault}
+use Rattle.page_access.specs.declared.outside.ReadFault.TheVariants.{Source as source_failed, Memory as no_memory}
 use Rattle.page_size.specs.declared.headers.Header.{Header}
 use Rattle.page_size.specs.declared.finds.Origin.{Origin}
 use Rattle.page_size.specs.declared.finds.Origin.TheVariants.{Header as by_header, Pages as by_pages, Chosen}
@@ -92,3 +94,8 @@ IsByRule (Err NoPageSize) wanted = wanted ≡ Err NoPageSize
 IsByRule (Err (NoWholePage len size)) wanted = wanted ≡ Err (NoWholePage len size)
 IsByRule (Err Source) wanted = ⊤
 IsByRule (Err Memory) wanted = ⊤
+
+-- a fault of a read, as one of this crate
+abbrev pub fault_of : ReadFault → GeoFault
+fault_of source_failed = Source
+fault_of no_memory = Memory

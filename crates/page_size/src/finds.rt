@@ -9,7 +9,7 @@ ghost use Rattle.page_size.specs.Rule.{IsByRule, IsUsable, fault_of, given_sizin
 
 use crate::headers::{Header, read_header};
 use crate::scores::{best, geometry_of, rank, zeros};
-use page_access::{Failed, Geometry, ReadFault, read_front};
+use page_access::{Failed, Geometry, ReadFault, Source, read_front};
 use std::alloc::{AllocError, Global};
 use thiserror::Error;
 
@@ -131,7 +131,7 @@ fn given_sizing(header: &Header, page_size: Option<u32>, reserved: Option<u8>) -
 }
 
 // The page size and the reserved bytes that the scores give.
-fn scored_sizing<S: page_access::Source>(
+fn scored_sizing<S: Source>(
     alloc: Global,
     src: &mut S,
     len: u64,
@@ -160,11 +160,7 @@ fn scored_sizing<S: page_access::Source>(
 }
 
 // The header of a source of this length. Its first bytes are read to `first`.
-fn header_of_source<S: page_access::Source>(
-    src: &mut S,
-    len: u64,
-    first: &mut [u8],
-) -> Result<Header, Failed>
+fn header_of_source<S: Source>(src: &mut S, len: u64, first: &mut [u8]) -> Result<Header, Failed>
     requires { length first.old ≡ 100 }
     ensures value { IfOk result (λ h. IfSome (S.bytes src.old)
         (λ all. length all ≡ len → h ≡ header_of all)) }
@@ -177,4 +173,70 @@ fn header_of_source<S: page_access::Source>(
     let front = &mut first[..len.min(100) as usize];
     read_front(src, front)?;
     Ok(read_header(front))
+}
+
+// The page size and the reserved bytes, where the options, the header or the scores give them.
+fn sizing_of<S: Source>(
+    alloc: Global,
+    src: &mut S,
+    len: u64,
+    header: &Header,
+    page_size: Option<u32>,
+    reserved: Option<u8>,
+) -> Result<Option<Sizing>, ReadFault>
+    requires len { len ≤ 2 ^ 28 }
+    requires header { header.now.size ≢ 0 → IsTrue (is_page_size header.now.size) }
+    requires size { IfSome page_size (λ s. IsTrue (is_page_size s)) }
+    requires enough { IfSome page_size (λ s. IfSome reserved (λ r. r + 480 ≤ s)) }
+    ensures value { IfOk result (λ o. IfSome (S.bytes src.old) (λ all. length all ≡ len →
+        o ≡ option_or (given_sizing header.now page_size reserved) (scored_sizing all reserved))) }
+    ensures usable { IfOk result (λ o. IfSome o (λ s. IsUsable s.size s.reserved)) }
+    ensures cause { HasCauseOf ReadFault.Source (S.faults src.old) (S.faults src.new) result }
+    ensures kept { KeepsSource S.bytes S.attached S.faults S.reads src.old src.new }
+    ensures reads { IfSome (S.bytes src.old) (λ all. length all ≡ len → S.reads src.new ≤ S.reads src.old
+        + (if is_none (given_sizing header.now page_size reserved) then len / 256 else 0)) }
+{
+    match given_sizing(header, page_size, reserved) {
+        Some(sizing) => Ok(Some(sizing)),
+        None => scored_sizing(alloc, src, len, reserved),
+    }
+}
+
+/// The pages of a source of `len` bytes, from 1 to 2^28. `page_size` is a page size, and `reserved`
+/// leaves 480 bytes of it. A chosen page size comes first, then the header's where it is one and
+/// leaves 480 usable bytes, then the one whose pages look most like pages of trees. `NoPageSize`
+/// where no page looks so, `NoWholePage` where the page size is over `len`.
+pub fn find_geometry<S: Source>(
+    alloc: Global,
+    src: &mut S,
+    len: u64,
+    page_size: Option<u32>,
+    reserved: Option<u8>,
+) -> Result<Found, GeoFault>
+    requires len_least { 1 ≤ len }
+    requires len_most { len ≤ 2 ^ 28 }
+    requires size { IfSome page_size (λ s. IsTrue (is_page_size s)) }
+    requires enough { IfSome page_size (λ s. IfSome reserved (λ r. r + 480 ≤ s)) }
+    ensures exact { IfSome (S.bytes src.old)
+        (λ all. length all ≡ len → IsByRule result (rule all page_size reserved)) }
+    ensures pages { IfOk result (λ f. f.geometry.pages ≡ len / f.geometry.page_size) }
+    ensures no_whole_page { (n s : ℕ) → IsErrOf result (GeoFault.NoWholePage n s) → (n ≡ len) × (len < s) }
+    ensures cause { HasCauseOf GeoFault.Source (S.faults src.old) (S.faults src.new) result }
+    ensures kept { KeepsSource S.bytes S.attached S.faults S.reads src.old src.new }
+    ensures reads { IfSome (S.bytes src.old) (λ all. length all ≡ len → S.reads src.new ≤ S.reads src.old
+        + 1 + (if is_scored all page_size reserved then len / 256 else 0)) }
+{
+    let header = header_of_source(src, len, &mut [0; 100])?;
+    let Some(sizing) = sizing_of(alloc, src, len, &header, page_size, reserved)? else {
+        return Err(GeoFault::NoPageSize);
+    };
+    let size = sizing.size;
+    let Some(geometry) = geometry_of(len, size, sizing.reserved) else {
+        return Err(GeoFault::NoWholePage { len, size });
+    };
+    Ok(Found {
+        geometry,
+        origin: sizing.origin,
+        header,
+    })
 }

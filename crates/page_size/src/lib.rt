@@ -5,5 +5,5 @@ mod finds;
 mod headers;
 mod scores;
 
-pub use finds::{Found, GeoFault, Origin};
+pub use finds::{Found, GeoFault, Origin, find_geometry};
 pub use headers::{Header, read_header};

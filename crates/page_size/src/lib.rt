@@ -7,3 +7,6 @@ mod scores;
 
 pub use finds::{Found, GeoFault, Origin, find_geometry};
 pub use headers::{Header, read_header};
+
+#[cfg(test)]
+mod tests;

@@ -25,7 +25,7 @@ next_found fuel bytes ts (Some v) at e =
     let m = mapped v.0 (varints_in fuel (drop v.1 bytes)) ts e in (v, m.0, varint_found bytes v.0 v.1 at, m.1, m.2)
 
 -- the varints that were read fill the bytes
-types_found : (fuel : ℕ) (bytes ts : List ℕ) → varints_in fuel bytes ≡ Some ts → SpellsTypes bytes ts
+pub types_found : (fuel : ℕ) (bytes ts : List ℕ) → varints_in fuel bytes ≡ Some ts → SpellsTypes bytes ts
 types_found fuel [] ts e = subst (λ (us : List ℕ). SpellsTypes [] us) (some_is [] ts e) refl
 types_found zero (b ∷ bs) ts e = absurd cc
 types_found (suc fuel) (b ∷ bs) ts e =

@@ -1,5 +1,6 @@
 pub mod Again
 pub mod Bodies
+pub mod Causes
 pub mod Fields
 pub mod Found
 pub mod Headers

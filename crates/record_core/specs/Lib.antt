@@ -1,3 +1,4 @@
+pub mod Faults
 pub mod Record
 pub mod Spelling
 pub mod Tally

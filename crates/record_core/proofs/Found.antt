@@ -12,7 +12,7 @@ use Rattle.record_core.specs.Record.{Header, varints_in, body_len, bodies_len, i
 use Rattle.record_core.specs.Spelling.{SpellsTypes, SpellsBodies, IsRecord, AreSpans}
 use Rattle.record_core.proofs.Bodies.{body_found}
 use Rattle.record_core.proofs.Headers.{HasRecord, then_ok, ok_is, record_header_is}
-use Rattle.record_core.proofs.Fields.{some_is}
+use Rattle.record_core.proofs.InTurn.{some_is}
 
 -- the first number of a row and the others, where both were read
 mapped : (t : ℕ) (read : Option (List ℕ)) (ts : List ℕ) → option_map (λ us. t ∷ us) read ≡ Some ts → (us : List ℕ) × (read ≡ Some us) × (t ∷ us ≡ ts)

@@ -1,7 +1,7 @@
 pub mod Again
 pub mod Bodies
 pub mod Causes
-pub mod Fields
+pub mod InTurn
 pub mod Found
 pub mod Headers
 pub mod Tally

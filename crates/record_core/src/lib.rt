@@ -2,11 +2,13 @@
 #![tactic(auto)]
 
 mod faults;
+mod fields;
 mod reading;
 mod spans;
 mod values;
 
 pub use faults::RecordFault;
+pub use fields::{FieldSlice, Fields};
 pub use reading::read_record;
 pub use spans::{RecordSpans, record_spans};
 pub use values::{Bytes, Value};

@@ -1,6 +1,10 @@
 //! Varints: whole numbers below 2^64 in one to nine bytes (docs/FORMAT.md, "Varints").
 #![tactic(auto)]
 
+mod writing;
+
+pub use writing::{varint_len, write_varint};
+
 ghost use Rattle.std.specs.Prelude.{◌≡◌, ◌≤◌, ◌+◌, ◌↔◌, ℕ, List, [], ◌++◌, length, take, drop, IfSome, IsNone};
 ghost use Rattle.varint_core.specs.Varint.{IsVarint, EndsInside, IsReadWhole, varint_at};
 

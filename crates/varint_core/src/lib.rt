@@ -3,10 +3,10 @@
 
 mod writing;
 
-pub use writing::{varint_len, write_varint};
-
 ghost use Rattle.std.specs.Prelude.{◌≡◌, ◌≤◌, ◌+◌, ◌↔◌, ℕ, List, [], ◌++◌, length, take, drop, IfSome, IsNone};
 ghost use Rattle.varint_core.specs.Varint.{IsVarint, EndsInside, IsReadWhole, varint_at};
+
+pub use writing::{a_spelling_is_read_back, varint_len, write_varint};
 
 /// The varint at a place in the bytes: its value, and its length of 1 to 9 bytes
 /// (fileformat2.html, 1.6). `None` where the bytes end inside it.

@@ -6,6 +6,7 @@ mod fields;
 mod reading;
 mod spans;
 mod values;
+mod writing;
 
 pub use faults::RecordFault;
 pub use fields::{FieldSlice, Fields};

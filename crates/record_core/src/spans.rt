@@ -151,6 +151,7 @@ fn add_body(bodies: Option<usize>, more: u64, room: usize) -> Option<usize>
 #[tactic(auto, unfolding(crate::specs::Record::body_len))]
 pub fn body_len(kind: u64) -> u64
     ensures value { result ≡ body_len kind }
+    ensures short { kind < 12 → result ≤ 8 }
 {
     match kind {
         0..=4 => kind,

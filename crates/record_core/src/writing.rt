@@ -1,0 +1,103 @@
+//! Records in their shortest spelling.
+
+ghost use Rattle.std.specs.Prelude.{◌≡◌, ◌≤◌, ◌<◌, ◌+◌, ◌^◌, ℕ, List, length, take, slice_index_or};
+ghost use Rattle.record_core.specs.Shortest.{IsWritable, steps, width_type, whole_type, serial_type, body_of, types_of, bodies_of, header_len, record_bytes, text_len, put_at};
+ghost use Rattle.record_core.specs.declared.values.Value.TheVariants.{Null};
+
+use crate::fields::Fields;
+use crate::spans::body_len;
+use crate::values::Value;
+use byteorder::{BigEndian, ByteOrder};
+use varint_core::{varint_len, write_varint};
+
+// How far a number is from 0, or from -1 where it is below 0.
+fn steps(number: i64) -> u64
+    ensures { result ≡ steps number }
+{
+    if number < 0 {
+        (-1 - number) as u64
+    } else {
+        number as u64
+    }
+}
+
+// The first of the serial types 1 to 6 that has room for a number with this many steps.
+fn width_type(steps: u64) -> u64
+    ensures value { result ≡ width_type steps }
+    ensures short { result ≤ 6 }
+{
+    match steps {
+        _ if steps < 1 << 7 => 1,
+        _ if steps < 1 << 15 => 2,
+        _ if steps < 1 << 23 => 3,
+        _ if steps < 1 << 31 => 4,
+        _ if steps < 1 << 47 => 5,
+        _ => 6,
+    }
+}
+
+// The serial type of a whole number.
+#[tactic(auto, unfolding(crate::specs::Shortest::whole_type))]
+fn whole_type(number: i64) -> u64
+    ensures value { result ≡ whole_type number }
+    ensures short { result ≤ 9 }
+{
+    match number {
+        0 => 8,
+        1 => 9,
+        _ => width_type(steps(number)),
+    }
+}
+
+// The serial type of a value.
+fn serial_type(value: &Value) -> u64
+    requires { text_len value.now < 2 ^ 40 }
+    ensures { result ≡ serial_type value.now }
+{
+    match value {
+        Value::Null => 0,
+        Value::Whole(number) => whole_type(*number),
+        Value::Real8(_) => 7,
+        Value::Text(bytes) => 2 * bytes.as_slice().len() as u64 + 13,
+        Value::Blob(bytes) => 2 * bytes.as_slice().len() as u64 + 12,
+    }
+}
+
+// Puts a piece at a place, and gives the place behind it.
+fn put(to: &mut [u8], at: usize, piece: &[u8]) -> usize
+    requires { at + length piece.now ≤ length to.old }
+    ensures end { result ≡ at + length piece.now }
+    ensures after { to.new ≡ put_at to.old at piece.now }
+{
+    let end = at + piece.len();
+    to[at..end].copy_from_slice(piece);
+    end
+}
+
+// Puts the body of a whole number at a place, and gives the place behind it.
+fn put_whole(to: &mut [u8], at: usize, number: i64) -> usize
+    requires { at + length (body_of (Value.Whole number)) ≤ length to.old }
+    ensures end { result ≡ at + length (body_of (Value.Whole number)) }
+    ensures after { to.new ≡ put_at to.old at (body_of (Value.Whole number)) }
+{
+    let len = body_len(whole_type(number)) as usize;
+    let mut bytes = [0u8; 8];
+    if len > 0 {
+        BigEndian::write_int(&mut bytes, number, len);
+    }
+    put(to, at, &bytes[..len])
+}
+
+// Puts the body of a value at a place, and gives the place behind it.
+fn put_body(to: &mut [u8], at: usize, value: &Value) -> usize
+    requires { at + length (body_of value.now) ≤ length to.old }
+    ensures end { result ≡ at + length (body_of value.now) }
+    ensures after { to.new ≡ put_at to.old at (body_of value.now) }
+{
+    match value {
+        Value::Null => at,
+        Value::Whole(number) => put_whole(to, at, *number),
+        Value::Real8(bytes) => put(to, at, bytes),
+        Value::Text(bytes) | Value::Blob(bytes) => put(to, at, bytes.as_slice()),
+    }
+}

@@ -4,5 +4,6 @@ pub mod Causes
 pub mod InTurn
 pub mod Found
 pub mod Headers
+pub mod Rows
 pub mod Tally
 pub mod Types

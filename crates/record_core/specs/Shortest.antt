@@ -1,5 +1,5 @@
 -- Records in their shortest spelling (docs/FORMAT.md, "Records"; fileformat2.html, 2.1).
-use Rattle.std.specs.Prelude.{◌≡◌, ◌≤◌, ◌<◌, ℕ, ◌+◌, ◌*◌, ◌^◌, ℤ, pos, negsuc, ◌==◌, nat_lt, List, [], ◌++◌, length, take, drop, slice_index, flat_map, sum_by, if◌then◌else◌}
+use Rattle.std.specs.Prelude.{◌≡◌, ◌≤◌, ◌<◌, ℕ, ◌+◌, ◌*◌, ◌^◌, ℤ, pos, negsuc, ◌==◌, nat_lt, List, [], ◌++◌, length, take, drop, get_or, flat_map, sum_by, if◌then◌else◌}
 use Rattle.std.specs.Int.{w64}
 use Rattle.byteorder.specs.Endian.{big_bytes, low_bytes}
 use Rattle.varint_core.specs.Shortest.{spell}
@@ -78,3 +78,15 @@ pub record IsWritable (values : List Value) : Type 0 where
 -- a list with a piece written over it from a place on
 abbrev pub put_at : List ℕ → ℕ → List ℕ → List ℕ
 put_at old at piece = take at old ++ (piece ++ drop (at + length piece) old)
+
+-- a value as the program holds it: a number of 64 bits, eight bytes of a floating point number
+abbrev pub IsStored : Value → Type 0
+IsStored Null = Unit {0}
+IsStored (Whole number) = steps number < 2 ^ 63
+IsStored (Real8 bytes) = length bytes ≡ 8
+IsStored (Text bytes) = Unit {0}
+IsStored (Blob bytes) = Unit {0}
+
+-- each value is one that the program holds
+abbrev pub AllStored : List Value → Type 0
+AllStored values = (k : ℕ) → k < length values → IsStored (get_or values k Null)

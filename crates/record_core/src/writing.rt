@@ -1,7 +1,7 @@
 //! Records in their shortest spelling.
 
 ghost use Rattle.std.specs.Prelude.{◌≡◌, ◌≤◌, ◌<◌, ◌+◌, ◌^◌, ℕ, List, length, take, slice_index_or};
-ghost use Rattle.record_core.specs.Shortest.{IsWritable, steps, width_type, whole_type, serial_type, body_of, types_of, bodies_of, header_len, record_bytes, text_len, put_at};
+ghost use Rattle.record_core.specs.Shortest.{IsStored, AllStored, IsWritable, steps, width_type, whole_type, serial_type, body_of, types_of, bodies_of, header_len, record_bytes, text_len, put_at};
 ghost use Rattle.record_core.specs.declared.values.Value.TheVariants.{Null};
 
 use crate::fields::Fields;
@@ -93,6 +93,7 @@ fn put_body(to: &mut [u8], at: usize, value: &Value) -> usize
     requires { at + length (body_of value.now) ≤ length to.old }
     ensures end { result ≡ at + length (body_of value.now) }
     ensures after { to.new ≡ put_at to.old at (body_of value.now) }
+    ensures stored { IsStored value.now }
 {
     match value {
         Value::Null => at,
@@ -100,4 +101,79 @@ fn put_body(to: &mut [u8], at: usize, value: &Value) -> usize
         Value::Real8(bytes) => put(to, at, bytes),
         Value::Text(bytes) | Value::Blob(bytes) => put(to, at, bytes.as_slice()),
     }
+}
+
+// The length of a slice.
+fn slice_len(bytes: &[u8]) -> usize
+    ensures { result ≡ length bytes.now }
+{
+    bytes.len()
+}
+
+// The length of the body of a value.
+fn body_size(value: &Value) -> usize
+    ensures value { result ≡ length (body_of value.now) }
+    ensures bound { result ≤ text_len value.now + 8 }
+{
+    match value {
+        Value::Null => 0,
+        Value::Whole(number) => body_len(whole_type(*number)) as usize,
+        Value::Real8(bytes) => slice_len(bytes),
+        Value::Text(bytes) | Value::Blob(bytes) => bytes.as_slice().len(),
+    }
+}
+
+// The length of the serial types of values.
+fn types_len<F: Fields>(values: &F) -> usize
+    requires { IsWritable (F.values values.now) }
+    ensures value { result ≡ length (types_of (F.values values.now)) }
+    ensures short { result ≤ 36000 }
+{
+    let mut total = 0;
+    for i in 0..values.count() {
+        total += varint_len(serial_type(values.field(i)));
+    }
+    total
+}
+
+// The length of the bodies of values.
+fn bodies_len<F: Fields>(values: &F) -> usize
+    requires { IsWritable (F.values values.now) }
+    ensures value { result ≡ length (bodies_of (F.values values.now)) }
+    ensures short { result ≤ 2 ^ 41 }
+{
+    let mut total = 0;
+    for i in 0..values.count() {
+        total += body_size(values.field(i));
+    }
+    total
+}
+
+// Puts the serial types of values at a place, and gives the place behind them.
+fn put_types<F: Fields>(to: &mut [u8], at: usize, values: &F) -> usize
+    requires fit { IsWritable (F.values values.now) }
+    requires room { at + length (types_of (F.values values.now)) ≤ length to.old }
+    ensures end { result ≡ at + length (types_of (F.values values.now)) }
+    ensures after { to.new ≡ put_at to.old at (types_of (F.values values.now)) }
+{
+    let mut end = at;
+    for i in 0..values.count() {
+        let spelled = write_varint(serial_type(values.field(i)));
+        end = put(to, end, spelled.as_slice());
+    }
+    end
+}
+
+// Puts the bodies of values at a place, and gives the place behind them.
+fn put_bodies<F: Fields>(to: &mut [u8], at: usize, values: &F) -> usize
+    requires { at + length (bodies_of (F.values values.now)) ≤ length to.old }
+    ensures end { result ≡ at + length (bodies_of (F.values values.now)) }
+    ensures after { to.new ≡ put_at to.old at (bodies_of (F.values values.now)) }
+    ensures stored { AllStored (F.values values.now) }
+{
+    let mut end = at;
+    for i in 0..values.count() {
+        end = put_body(to, end, values.field(i));
+    }
+    end
 }

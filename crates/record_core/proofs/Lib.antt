@@ -4,6 +4,8 @@ pub mod Causes
 pub mod InTurn
 pub mod Found
 pub mod Headers
+pub mod Numbers
 pub mod Rows
 pub mod Tally
 pub mod Types
+pub mod Written

@@ -87,3 +87,17 @@ pub stored_more : (vs : List Value) (i : ℕ) (v : Value) → ((k : ℕ) → k <
 stored_more vs i v before lt is stored =
     let here : IsStored (get_or vs i Null) = subst (λ (x : Value). IsStored x) (is ∙ get_or_default vs i v Null lt) stored in
     below_more (λ k. IsStored (get_or vs k Null)) i before here
+
+-- three pieces, one behind another
+pub put_three : (old a b c t1 t2 t3 : List ℕ) (n1 n2 : ℕ) → length (a ++ (b ++ c)) ≤ length old → t1 ≡ put_at old 0 a → n1 ≡ 0 + length a → t2 ≡ put_at t1 n1 b → n2 ≡ n1 + length b → t3 ≡ put_at t2 n2 c → t3 ≡ put_at old 0 (a ++ (b ++ c))
+put_three old a b c t1 t2 t3 n1 n2 room one e1 two e2 three =
+    let sum : length (a ++ (b ++ c)) ≡ length a + (length b + length c) = omega (arith, length-append a (b ++ c), length-append b c) in
+    let first : t2 ≡ put_at old 0 (a ++ b) =
+        two ∙ ap (λ (t : List ℕ). put_at t n1 b) one ∙ ap (λ n. put_at (put_at old 0 a) n b) e1 ∙ put_both old 0 a b (omega arith) in
+    let place : n2 ≡ 0 + length (a ++ b) = omega (arith, length-append a b) in
+    three ∙ ap (λ (t : List ℕ). put_at t n2 c) first ∙ ap (λ n. put_at (put_at old 0 (a ++ b)) n c) place
+    ∙ put_both old 0 (a ++ b) c (omega (arith, length-append a b)) ∙ ap (put_at old 0) (append_assoc a b c)
+
+-- what stands at the front
+pub put_front : (old piece : List ℕ) (n : ℕ) → n ≡ length piece → take n (put_at old 0 piece) ≡ piece
+put_front old piece n e = take_at piece (drop (0 + length piece) old) n (sym e)

@@ -1,14 +1,73 @@
 //! Records in their shortest spelling.
 
-ghost use Rattle.std.specs.Prelude.{◌≡◌, ◌≤◌, ◌<◌, ◌+◌, ◌^◌, ℕ, List, length, take, slice_index_or};
+ghost use Rattle.std.specs.Prelude.{◌≡◌, ◌≤◌, ◌<◌, ◌+◌, ◌^◌, ◌++◌, ℕ, List, length, take, drop};
 ghost use Rattle.record_core.specs.Shortest.{IsStored, AllStored, IsWritable, steps, width_type, whole_type, serial_type, body_of, types_of, bodies_of, header_len, record_bytes, text_len, put_at};
-ghost use Rattle.record_core.specs.declared.values.Value.TheVariants.{Null};
+ghost use Rattle.record_core.specs.Spelling.{IsRecord};
+ghost use Rattle.record_core.specs.Record.{record_of};
+ghost use Rattle.record_core.specs.declared.values.Value.{Value};
 
 use crate::fields::Fields;
 use crate::spans::body_len;
 use crate::values::Value;
 use byteorder::{BigEndian, ByteOrder};
 use varint_core::{varint_len, write_varint};
+
+/// The length of the shortest record of the values, at most 4,000 whose lengths sum below 2^40.
+/// Takes no memory.
+pub fn record_len<F: Fields>(values: &F) -> usize
+    requires { IsWritable (F.values values.now) }
+    ensures value { result ≡ length (record_bytes (F.values values.now)) }
+{
+    header_len(types_len(values)) + bodies_len(values)
+}
+
+/// Writes the shortest record of the values to the front, leaves the rest, and gives its length
+/// (fileformat2.html, 2.1). Takes no memory.
+pub fn write_record<F: Fields>(values: &F, to: &mut [u8]) -> usize
+    requires fit { IsWritable (F.values values.now) }
+    requires room { length (record_bytes (F.values values.now)) ≤ length to.old }
+    ensures value { result ≡ length (record_bytes (F.values values.now)) }
+    ensures bytes { to.new ≡ record_bytes (F.values values.now) ++ drop result to.old }
+    // What is written spells the values, whatever follows it.
+    ensures found { (rest : List ℕ) → IsRecord (take result to.new ++ rest) (F.values values.now) }
+{
+    put_record(to, values)
+}
+
+/// A record of few values is read back.
+pub fn a_record_is_read_back()
+    ensures { (s : List ℕ) (vs : List Value) → IsRecord s vs → length vs ≤ 1996 → record_of s ≡ Ok vs }
+{}
+
+// Puts the record to the front, and gives its length.
+#[tactic(auto, unfolding(crate::specs::Shortest::record_bytes))]
+fn put_record<F: Fields>(to: &mut [u8], values: &F) -> usize
+    requires fit { IsWritable (F.values values.now) }
+    requires room { length (record_bytes (F.values values.now)) ≤ length to.old }
+    ensures end { result ≡ length (record_bytes (F.values values.now)) }
+    ensures after { to.new ≡ put_at to.old 0 (record_bytes (F.values values.now)) }
+    ensures stored { AllStored (F.values values.now) }
+{
+    let size = write_varint(header_len(types_len(values)) as u64);
+    let types = put(to, 0, size.as_slice());
+    let bodies = put_types(to, types, values);
+    put_bodies(to, bodies, values)
+}
+
+// The size of a header whose serial types take this many bytes.
+fn header_len(types: usize) -> usize
+    requires { types ≤ 36000 }
+    ensures value { result ≡ header_len types }
+    ensures short { result ≤ 36003 }
+{
+    if types < 127 {
+        types + 1
+    } else if types < 16382 {
+        types + 2
+    } else {
+        types + 3
+    }
+}
 
 // How far a number is from 0, or from -1 where it is below 0.
 fn steps(number: i64) -> u64

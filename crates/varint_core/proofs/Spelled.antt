@@ -36,7 +36,7 @@ len_is v =
     record { some = lit≤ tt; most = lit≤ tt; low = λ _. i; high = λ x. absurd (omega arith) }))))))))
 
 -- fewer bytes have no room for the number
-len_least : (v n m : ℕ) → IsLen v n → 1 ≤ m → v < 2 ^ (7 * m) → n ≤ m
+pub len_least : (v n m : ℕ) → IsLen v n → 1 ≤ m → v < 2 ^ (7 * m) → n ≤ m
 len_least v n m l some below =
     elim (cases_Bool (ltb m n)) [
       | inl e ↦
@@ -45,6 +45,21 @@ len_least v n m l some below =
           let more : 2 ^ (7 * m) ≤ 2 ^ (7 * (n - 1)) = pow-le-pow_right {n = 2} (lit< tt) {i = 7 * m} {j = 7 * (n - 1)} (omega arith) in
           absurd (omega arith)
       | inr e ↦ ltb-false m n e
+    ]
+
+-- the length of a number between two limits
+pub len_exact : (v k : ℕ) → 1 ≤ k → k ≤ 8 → 2 ^ (7 * (k - 1)) ≤ v → v < 2 ^ (7 * k) → varint_len v ≡ k
+len_exact v k one most low high =
+    let l = len_is v in
+    let n = varint_len v in
+    let le : n ≤ k = len_least v n k l one high in
+    elim (cases_Bool (ltb n k)) [
+      | inl e ↦
+          let less : n < k = ltb-true n k e in
+          let below : v < 2 ^ (7 * n) = l.high (omega arith) in
+          let more : 2 ^ (7 * n) ≤ 2 ^ (7 * (k - 1)) = pow-le-pow_right {n = 2} (lit< tt) {i = 7 * n} {j = 7 * (k - 1)} (omega arith) in
+          absurd (omega arith)
+      | inr e ↦ omega (arith, ltb-false n k e, le)
     ]
 
 -- a long number has nine bytes

@@ -4,6 +4,7 @@ pub mod Causes
 pub mod InTurn
 pub mod Found
 pub mod Headers
+pub mod Least
 pub mod Numbers
 pub mod Rows
 pub mod Tally

@@ -1,5 +1,5 @@
 -- A whole number in its body, and back.
-use Rattle.std.proofs.Common.{◌≡◌, ◌<◌, ◌≤◌, ◌⊎◌, ℕ, zero, suc, ◌+◌, ◌-◌, ◌*◌, ◌%◌, ◌^◌, ℤ, pos, negsuc, ◌-ℤ◌, Bool, true, false, cond, eqb, ltb, List, [], ◌++◌, length, inl, inr, refl, sym, ap, subst, ◌∙◌, arith, lit<, lit≤, append-nil, eqb-true, ltb-true, ltb-false, lt-ltb, le-ltb, mod-eq_of_lt, mod-lt}
+use Rattle.std.proofs.Common.{◌≡◌, ◌<◌, ◌≤◌, ◌⊎◌, ℕ, zero, suc, ◌+◌, ◌-◌, ◌*◌, ◌%◌, ◌^◌, ℤ, pos, negsuc, true, false, cond, eqb, ltb, [], length, inl, inr, refl, sym, ap, ◌∙◌, arith, lit≤, append-nil, eqb-true, ltb-true, ltb-false, lt-ltb, le-ltb, mod-eq_of_lt, mod-lt}
 use Rattle.std.proofs.Math.Nat.{mul-add-mod_self_right, one-le-pow}
 use Rattle.std.proofs.lemmas.Bool.{cases_Bool}
 use Rattle.std.proofs.lemmas.Int.{ints}
@@ -21,13 +21,13 @@ neg_mod (suc r) p k one lt =
     ap (λ n. n % p) apart ∙ mul-add-mod_self_right r p (p - suc k) ∙ mod-eq_of_lt small
 
 -- half of 2 ^ bits, and what makes 2 ^ 64 of it
-record Halves (n : ℕ) : Type 0 where
-  whole : 2 ^ (8 * n) ≡ 2 * 2 ^ (8 * n - 1)
-  some : 1 ≤ 2 ^ (8 * n - 1)
-  times : 2 ^ (64 - 8 * n) * 2 ^ (8 * n) ≡ 2 ^ 64
-  more : 1 ≤ 2 ^ (64 - 8 * n)
+pub record Halves (n : ℕ) : Type 0 where
+  pub whole : 2 ^ (8 * n) ≡ 2 * 2 ^ (8 * n - 1)
+  pub some : 1 ≤ 2 ^ (8 * n - 1)
+  pub times : 2 ^ (64 - 8 * n) * 2 ^ (8 * n) ≡ 2 ^ 64
+  pub more : 1 ≤ 2 ^ (64 - 8 * n)
 
-halves : (n : ℕ) → 1 ≤ n → n ≤ 8 → Halves n
+pub halves : (n : ℕ) → 1 ≤ n → n ≤ 8 → Halves n
 halves n one most = record {
   whole = let e : 8 * n ≡ 1 + (8 * n - 1) = omega arith in ap (λ k. 2 ^ k) e ∙ pow-add 2 1 (8 * n - 1);
   some = one-le-pow (8 * n - 1) 2 (lit≤ tt);
@@ -67,7 +67,7 @@ number_is t n z w len one most small =
     })
 
 -- the tests of a width, one after another
-test : (n limit t rest : ℕ) (P : ℕ → Type 0) → (n < limit → P t) → (limit ≤ n → P rest) → P (cond (ltb n limit) t rest)
+pub test : (n limit t rest : ℕ) (P : ℕ → Type 0) → (n < limit → P t) → (limit ≤ n → P rest) → P (cond (ltb n limit) t rest)
 test n limit t rest P below above =
     elim (cases_Bool (ltb n limit)) [
       | inl e ↦ rw e (below (ltb-true n limit e))
@@ -101,7 +101,7 @@ whole_is (pos k) fits =
     elim (cases_Bool (eqb k 0)) [
       | inl e ↦ let k-is : k ≡ 0 = eqb-true k 0 e in rw k-is (inr zero_is)
       | inr e ↦ elim (cases_Bool (eqb k 1)) [
-          | inl f ↦ let k-is : k ≡ 1 = eqb-true k 1 f in rw k-is (inr one_is)
-          | inr f ↦ rw (e, f) (inl (width_is k (pos k) refl fits))
-        ]
+        | inl f ↦ let k-is : k ≡ 1 = eqb-true k 1 f in rw k-is (inr one_is)
+        | inr f ↦ rw (e, f) (inl (width_is k (pos k) refl fits))
+      ]
     ]

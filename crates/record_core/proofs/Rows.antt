@@ -1,12 +1,12 @@
 -- A row of values that is gone over from the first to the last.
-use Rattle.std.proofs.Common.{◌≡◌, ◌<◌, ◌≤◌, ℕ, ◌+◌, ◌*◌, ◌^◌, List, [], ◌∷◌, ◌++◌, length, get_or, take, drop, flat_map, sum_by, refl, sym, ap, subst, ◌∙◌, arith, append_assoc, append-nil, length-append, length-take, length-drop, take_at, drop_at, take_all, take-append-drop, drop-drop, add-zero, below_more}
+use Rattle.std.proofs.Common.{◌≡◌, ◌<◌, ◌≤◌, ℕ, ◌+◌, ◌^◌, List, [], ◌∷◌, ◌++◌, length, get_or, take, drop, flat_map, sum_by, sym, ap, subst, ◌∙◌, arith, append_assoc, append-nil, length-append, length-take, length-drop, take_at, drop_at, take_all, take-append-drop, drop-drop, add-zero, below_more}
 use Rattle.std.proofs.lemmas.Grind.{flat_map-append}
 use Rattle.std.proofs.lemmas.List.{take_more, get_or_default}
 use Rattle.std.proofs.lemmas.List.Folds.{length-flat_map-take}
 use Rattle.std.proofs.lemmas.List.Sums.{sum_by_more_le, sum_by_more}
 use Rattle.record_core.specs.declared.values.Value.{Value}
 use Rattle.record_core.specs.declared.values.Value.TheVariants.{Null}
-use Rattle.record_core.specs.Shortest.{IsWritable, IsStored, body_of, text_len, put_at}
+use Rattle.record_core.specs.Shortest.{IsWritable, IsStored, text_len, put_at}
 
 -- the pieces of the first values, with one value more
 pub pieces_more : (f : Value → List ℕ) (vs : List Value) (i : ℕ) (v : Value) → i < length vs → v ≡ get_or vs i v → flat_map f (take (i + 1) vs) ≡ flat_map f (take i vs) ++ f v
@@ -50,8 +50,8 @@ put_both old at p q le =
     let one : take (at + length p) (put_at old at p) ≡ front = ap (take (at + length p)) apart ∙ take_at front behind (at + length p) len in
     let first : drop (at + length p) (put_at old at p) ≡ behind = ap (drop (at + length p)) apart ∙ drop_at front behind (at + length p) len in
     let two : drop (at + length p + length q) (put_at old at p) ≡ drop (at + length (p ++ q)) old =
-        sym (drop-drop (length q) (at + length p) (put_at old at p)) ∙ ap (drop (length q)) first ∙ drop-drop (length q) (at + length p) old
-        ∙ ap (λ n. drop n old) (omega (arith, length-append p q)) in
+    sym (drop-drop (length q) (at + length p) (put_at old at p)) ∙ ap (drop (length q)) first ∙ drop-drop (length q) (at + length p) old
+    ∙ ap (λ n. drop n old) (omega (arith, length-append p q)) in
     ap (λ (t : List ℕ). t ++ (q ++ drop (at + length p + length q) (put_at old at p))) one
     ∙ ap (λ (t : List ℕ). front ++ (q ++ t)) two
     ∙ append_assoc (take at old) p (q ++ drop (at + length (p ++ q)) old)
@@ -74,7 +74,7 @@ wrote_next f vs old at i now end v new place w room lt is put-is place-is =
     let more = pieces_more f vs i v lt is in
     record {
       after = put-is ∙ ap (λ (t : List ℕ). put_at t end (f v)) w.after ∙ ap (λ n. put_at (put_at old at done) n (f v)) w.place
-        ∙ put_both old at done (f v) (omega (arith, pieces_room f vs i v lt is)) ∙ ap (put_at old at) (sym more);
+          ∙ put_both old at done (f v) (omega (arith, pieces_room f vs i v lt is)) ∙ ap (put_at old at) (sym more);
       place = place-is ∙ omega (arith, w.place, pieces_len f vs i v lt is);
     }
 
@@ -93,7 +93,7 @@ pub put_three : (old a b c t1 t2 t3 : List ℕ) (n1 n2 : ℕ) → length (a ++ (
 put_three old a b c t1 t2 t3 n1 n2 room one e1 two e2 three =
     let sum : length (a ++ (b ++ c)) ≡ length a + (length b + length c) = omega (arith, length-append a (b ++ c), length-append b c) in
     let first : t2 ≡ put_at old 0 (a ++ b) =
-        two ∙ ap (λ (t : List ℕ). put_at t n1 b) one ∙ ap (λ n. put_at (put_at old 0 a) n b) e1 ∙ put_both old 0 a b (omega arith) in
+    two ∙ ap (λ (t : List ℕ). put_at t n1 b) one ∙ ap (λ n. put_at (put_at old 0 a) n b) e1 ∙ put_both old 0 a b (omega arith) in
     let place : n2 ≡ 0 + length (a ++ b) = omega (arith, length-append a b) in
     three ∙ ap (λ (t : List ℕ). put_at t n2 c) first ∙ ap (λ n. put_at (put_at old 0 (a ++ b)) n c) place
     ∙ put_both old 0 (a ++ b) c (omega (arith, length-append a b)) ∙ ap (put_at old 0) (append_assoc a b c)

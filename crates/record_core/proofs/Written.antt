@@ -1,15 +1,14 @@
 -- What is written spells the values.
-use Rattle.std.proofs.Common.{◌≡◌, ◌<◌, ◌≤◌, ◌⊎◌, ℕ, suc, ◌+◌, ◌-◌, ◌*◌, ◌^◌, ℤ, pos, negsuc, Bool, true, false, eqb, ltb, if◌then◌else◌, List, [], ◌∷◌, ◌++◌, length, get_or, map, take, drop, flat_map, sum_by, inl, inr, refl, sym, ap, subst, ◌∙◌, arith, lit<, lit≤, append_assoc, append-nil, length-append, take_at, drop_at, ltb-true, ltb-false}
+use Rattle.std.proofs.Common.{◌≡◌, ◌<◌, ◌≤◌, ℕ, suc, ◌+◌, ◌*◌, ◌^◌, ℤ, pos, negsuc, eqb, ltb, if◌then◌else◌, List, [], ◌∷◌, ◌++◌, length, map, sum_by, inl, inr, refl, sym, ap, subst, ◌∙◌, arith, lit<, lit≤, append_assoc, length-append, ltb-true, ltb-false}
 use Rattle.std.proofs.lemmas.Bool.{cases_Bool}
 use Rattle.std.proofs.lemmas.List.Sums.{sum_by-cons}
-use Rattle.std.proofs.lemmas.List.Concat.{flat_map-cons}
 use Rattle.varint_core.specs.Varint.{IsVarint}
 use Rattle.varint_core.specs.Shortest.{spell, varint_len}
 use Rattle.varint_core.proofs.Spelled.{len_is, len_exact, spell_is, length-spell}
 use Rattle.record_core.specs.declared.values.Value.{Value}
 use Rattle.record_core.specs.declared.values.Value.TheVariants.{Null, Whole, Real8, Text, Blob}
 use Rattle.record_core.specs.Spelling.{IsBody, SpellsTypes, SpellsBodies, IsRecord}
-use Rattle.record_core.specs.Shortest.{IsStored, AllStored, IsWritable, whole_type, width_type, serial_type, body_of, types_of, bodies_of, header_len, record_bytes, text_len, put_at}
+use Rattle.record_core.specs.Shortest.{IsStored, AllStored, IsWritable, whole_type, width_type, serial_type, body_of, types_of, bodies_of, header_len, record_bytes, text_len}
 use Rattle.record_core.proofs.Numbers.{whole_is}
 
 -- a value is spelled by its serial type and body
@@ -23,8 +22,8 @@ body_is (Blob bytes) s = (refl, refl)
 width_small : (n : ℕ) → width_type n ≤ 6
 width_small n = step (2 ^ 7) 1 _ (lit≤ tt) (step (2 ^ 15) 2 _ (lit≤ tt) (step (2 ^ 23) 3 _ (lit≤ tt) (step (2 ^ 31) 4 _ (lit≤ tt) (step (2 ^ 47) 5 6 (lit≤ tt) (lit≤ tt)))))
   where
-  step : (limit t rest : ℕ) → t ≤ 6 → rest ≤ 6 → (if ltb n limit then t else rest) ≤ 6
-  step limit t rest a b = elim (cases_Bool (ltb n limit)) [ inl e ↦ rw e a | inr e ↦ rw e b ]
+    step : (limit t rest : ℕ) → t ≤ 6 → rest ≤ 6 → (if ltb n limit then t else rest) ≤ 6
+    step limit t rest a b = elim (cases_Bool (ltb n limit)) [ inl e ↦ rw e a | inr e ↦ rw e b ]
 
 pub whole_small : (z : ℤ) → whole_type z ≤ 9
 unfolding whole_type
@@ -60,9 +59,9 @@ size_is n le =
     elim (cases_Bool (ltb n 127)) [
       | inl e ↦ let a = ltb-true n 127 e in rw e (omega (arith, len_exact (n + 1) 1 (lit≤ tt) (lit≤ tt) (omega arith) (omega arith)))
       | inr e ↦ elim (cases_Bool (ltb n 16382)) [
-          | inl f ↦ let a = ltb-false n 127 e in let b = ltb-true n 16382 f in rw (e, f) (omega (arith, len_exact (n + 2) 2 (lit≤ tt) (lit≤ tt) (omega arith) (omega arith)))
-          | inr f ↦ let b = ltb-false n 16382 f in rw (e, f) (omega (arith, len_exact (n + 3) 3 (lit≤ tt) (lit≤ tt) (omega arith) (omega arith)))
-        ]
+        | inl f ↦ let a = ltb-false n 127 e in let b = ltb-true n 16382 f in rw (e, f) (omega (arith, len_exact (n + 2) 2 (lit≤ tt) (lit≤ tt) (omega arith) (omega arith)))
+        | inr f ↦ let b = ltb-false n 16382 f in rw (e, f) (omega (arith, len_exact (n + 3) 3 (lit≤ tt) (lit≤ tt) (omega arith) (omega arith)))
+      ]
     ]
 
 header_small : (n : ℕ) → n ≤ 36000 → header_len n < 2 ^ 64

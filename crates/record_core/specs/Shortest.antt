@@ -6,7 +6,6 @@ use Rattle.varint_core.specs.Shortest.{spell}
 use Rattle.record_core.specs.declared.values.Value.{Value}
 use Rattle.record_core.specs.declared.values.Value.TheVariants.{Null, Whole, Real8, Text, Blob}
 use Rattle.record_core.specs.Record.{body_len}
-use Rattle.record_core.specs.Spelling.{IsRecord}
 
 -- how far a number is from 0, or from -1 where it is below 0
 abbrev pub steps : ℤ → ℕ

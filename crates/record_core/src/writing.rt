@@ -2,7 +2,7 @@
 
 ghost use Rattle.std.specs.Prelude.{◌≡◌, ◌≤◌, ◌<◌, ◌+◌, ◌^◌, ◌++◌, ℕ, List, length, take, drop};
 ghost use Rattle.record_core.specs.Shortest.{IsStored, AllStored, IsWritable, steps, width_type, whole_type, serial_type, body_of, types_of, bodies_of, header_len, record_bytes, text_len, put_at};
-ghost use Rattle.record_core.specs.Spelling.{IsRecord};
+ghost use Rattle.record_core.specs.Spelling.{IsRecord, IsShortestRecord};
 ghost use Rattle.record_core.specs.Record.{record_of};
 ghost use Rattle.record_core.specs.declared.values.Value.{Value};
 
@@ -30,6 +30,8 @@ pub fn write_record<F: Fields>(values: &F, to: &mut [u8]) -> usize
     ensures bytes { to.new ≡ record_bytes (F.values values.now) ++ drop result to.old }
     // What is written spells the values, whatever follows it.
     ensures found { (rest : List ℕ) → IsRecord (take result to.new ++ rest) (F.values values.now) }
+    // Nothing shorter does: smallest serial types, shortest varints.
+    ensures shortest { IsShortestRecord (take result to.new) (F.values values.now) }
 {
     put_record(to, values)
 }

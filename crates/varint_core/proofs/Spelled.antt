@@ -183,7 +183,7 @@ spelling_bound bytes v s e =
     let more = seven_more (length s.front) in
     rw len (omega (arith, e.number, e.ends))
 
-least_by : (bytes : List ℕ) (v : ℕ) (s : IsVarint bytes v) → EndsEarly s.front s.last v ⊎ EndsNinth s.front s.last v → varint_len v ≤ length bytes
+pub least_by : (bytes : List ℕ) (v : ℕ) (s : IsVarint bytes v) → EndsEarly s.front s.last v ⊎ EndsNinth s.front s.last v → varint_len v ≤ length bytes
 least_by bytes v s (inl e) =
     len_least v (varint_len v) (length bytes) (len_is v) (omega (arith, ap length s.parts, length-append s.front (s.last ∷ []))) (spelling_bound bytes v s e)
 least_by bytes v s (inr e) =

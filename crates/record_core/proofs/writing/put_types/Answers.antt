@@ -1,4 +1,4 @@
-use Rattle.std.proofs.Common.{◌≡◌, ◌∙◌, ap, length, List, arith, ℕ, subst, sym, ◌+◌}
+use Rattle.std.proofs.Common.{◌≡◌, ◌∙◌, ap, length, List, arith, ℕ, ◌+◌}
 use Rattle.varint_core.specs.Shortest.{spell}
 use Rattle.record_core.specs.Shortest.{serial_type, put_at}
 use Rattle.record_core.proofs.Rows.{wrote_room, wrote_next}

@@ -1,5 +1,5 @@
-use Rattle.std.proofs.Common.{◌∙◌, ◌+◌, ap, arith, length}
-use Rattle.record_core.specs.Shortest.{header_len, types_of, bodies_of}
+use Rattle.std.proofs.Common.{◌∙◌, ◌+◌, ap, length}
+use Rattle.record_core.specs.Shortest.{header_len, types_of}
 use Rattle.record_core.proofs.Written.{record_len_is}
 use Rattle.record_core.proofs.writing.record_len.Goals as goal
 

@@ -17,7 +17,7 @@ varint_some : (bytes : List ℕ) (v : ℕ) → IsVarint bytes v → 1 ≤ length
 varint_some bytes v s = omega (arith, ap length s.parts, length-append s.front (s.last ∷ []))
 
 -- the varints that fill the bytes are read
-types_again : (ts : List ℕ) (fuel : ℕ) (bytes : List ℕ) → SpellsTypes bytes ts → length bytes ≤ fuel → varints_in fuel bytes ≡ Some ts
+pub types_again : (ts : List ℕ) (fuel : ℕ) (bytes : List ℕ) → SpellsTypes bytes ts → length bytes ≤ fuel → varints_in fuel bytes ≡ Some ts
 types_again [] fuel bytes s le = no_bytes fuel bytes (ap length s)
 types_again (t ∷ ts) fuel bytes s le =
     let first = s.0 in
@@ -59,7 +59,7 @@ bodies_again (t ∷ ts) (v ∷ vs) bodies rest s =
     }
 
 -- the header that is spelled is read
-header_again : (payload : List ℕ) (h : Header) → varint_at payload ≡ Some (h.size, h.start) → h.start ≤ h.size → h.size ≤ length payload → types_in (take (h.size - h.start) (drop h.start payload)) ≡ Some h.types → header_at payload ≡ Ok h
+pub header_again : (payload : List ℕ) (h : Header) → varint_at payload ≡ Some (h.size, h.start) → h.start ≤ h.size → h.size ≤ length payload → types_in (take (h.size - h.start) (drop h.start payload)) ≡ Some h.types → header_at payload ≡ Ok h
 unfolding header_at
 header_again payload h at low high types =
     let a : ltb h.size h.start ≡ false = le-ltb h.size h.start low in

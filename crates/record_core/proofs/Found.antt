@@ -12,7 +12,7 @@ use Rattle.record_core.specs.Record.{Header, varints_in, body_len, bodies_len, i
 use Rattle.record_core.specs.Spelling.{SpellsTypes, SpellsBodies, IsRecord, AreSpans}
 use Rattle.record_core.proofs.Bodies.{body_found}
 use Rattle.record_core.proofs.Headers.{HasRecord, then_ok, ok_is, record_header_is}
-use Rattle.record_core.proofs.Fields.{some_is}
+use Rattle.record_core.proofs.InTurn.{some_is}
 
 -- the first number of a row and the others, where both were read
 mapped : (t : ℕ) (read : Option (List ℕ)) (ts : List ℕ) → option_map (λ us. t ∷ us) read ≡ Some ts → (us : List ℕ) × (read ≡ Some us) × (t ∷ us ≡ ts)
@@ -25,7 +25,7 @@ next_found fuel bytes ts (Some v) at e =
     let m = mapped v.0 (varints_in fuel (drop v.1 bytes)) ts e in (v, m.0, varint_found bytes v.0 v.1 at, m.1, m.2)
 
 -- the varints that were read fill the bytes
-types_found : (fuel : ℕ) (bytes ts : List ℕ) → varints_in fuel bytes ≡ Some ts → SpellsTypes bytes ts
+pub types_found : (fuel : ℕ) (bytes ts : List ℕ) → varints_in fuel bytes ≡ Some ts → SpellsTypes bytes ts
 types_found fuel [] ts e = subst (λ (us : List ℕ). SpellsTypes [] us) (some_is [] ts e) refl
 types_found zero (b ∷ bs) ts e = absurd cc
 types_found (suc fuel) (b ∷ bs) ts e =

@@ -1,7 +1,12 @@
 pub mod Again
 pub mod Bodies
-pub mod Fields
+pub mod Causes
+pub mod InTurn
 pub mod Found
 pub mod Headers
+pub mod Least
+pub mod Numbers
+pub mod Rows
 pub mod Tally
 pub mod Types
+pub mod Written

@@ -1,3 +1,5 @@
+pub mod Faults
 pub mod Record
+pub mod Shortest
 pub mod Spelling
 pub mod Tally

@@ -1,5 +1,5 @@
 -- The bytes that spell a record (docs/FORMAT.md, "Records"; fileformat2.html, 2.1).
-use Rattle.std.specs.Prelude.{◌≡◌, ◌⊎◌, ℕ, ◌+◌, ◌*◌, ℤ, pos, List, [], ◌∷◌, ◌++◌, length}
+use Rattle.std.specs.Prelude.{◌≡◌, ◌≤◌, ◌<◌, ◌⊎◌, ℕ, ◌+◌, ◌*◌, ℤ, pos, List, [], ◌∷◌, ◌++◌, length, slice_index}
 use Rattle.byteorder.specs.Endian.{big_number, twos_complement}
 use Rattle.varint_core.specs.Varint.{IsVarint}
 use Rattle.record_core.specs.declared.spans.RecordSpans.{RecordSpans}
@@ -66,3 +66,12 @@ spans_in {values = values} r =
 -- the sizes are those of a record that the bytes spell
 abbrev pub AreSpans : List ℕ → RecordSpans → Type 0
 AreSpans bytes spans = (values : List Value) × (r : IsRecord bytes values) × (spans ≡ spans_in r)
+
+-- the numbers are bytes
+abbrev pub AreBytes : List ℕ → Type 0
+AreBytes bytes = (k : ℕ) → slice_index bytes k < 256
+
+-- the bytes spell the values, and no fewer bytes do
+pub record IsShortestRecord (bytes : List ℕ) (values : List Value) : Type 0 where
+  pub spelled : IsRecord bytes values
+  pub least : (other : List ℕ) → AreBytes other → IsRecord other values → length bytes ≤ length other

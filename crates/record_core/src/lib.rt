@@ -2,14 +2,18 @@
 #![tactic(auto)]
 
 mod faults;
+mod fields;
 mod reading;
 mod spans;
 mod values;
+mod writing;
 
 pub use faults::RecordFault;
+pub use fields::{FieldSlice, Fields};
 pub use reading::read_record;
 pub use spans::{RecordSpans, record_spans};
 pub use values::{Bytes, Value};
+pub use writing::{a_record_is_read_back, record_len, write_record};
 
 #[cfg(test)]
 mod tests;

@@ -1,7 +1,8 @@
 //! Reading a record.
 
-ghost use Rattle.std.specs.Prelude.{◌≡◌, ◌≤◌, ℕ, List, length, IfOk, IsSomeAnd};
+ghost use Rattle.std.specs.Prelude.{◌≡◌, ◌≤◌, ℕ, List, length, IfOk, IfErr, IsSomeAnd, ◌⊎◌};
 ghost use Rattle.record_core.specs.Record.{body_len, bodies_len, types_in, value_of, values_of, record_of, Gives};
+ghost use Rattle.record_core.specs.Faults.{IsCause};
 ghost use Rattle.record_core.specs.Spelling.{IsRecord};
 
 use crate::faults::RecordFault;
@@ -19,6 +20,7 @@ pub fn read_record(alloc: Global, payload: &[u8]) -> Result<Vec<Value>, RecordFa
     // What the payload spells, with few values, is answered, unless memory runs out.
     ensures only { (vs : List Value) → IsRecord payload.now vs → length vs ≤ 1996 → Gives (λ v. v.items) result (Ok vs) }
     ensures exact { Gives (λ v. v.items) result (record_of payload.now) }
+    ensures fault { IfErr result (λ f. (f ≡ RecordFault.Memory) ⊎ IsCause payload.now f) }
 {
     decode(alloc, payload)
 }

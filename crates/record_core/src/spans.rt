@@ -1,8 +1,9 @@
 //! The header of a record: its serial types, and what they say of the bytes.
 
-ghost use Rattle.std.specs.Prelude.{◌≡◌, ◌≤◌, ◌<◌, ◌+◌, ◌^◌, ◌||◌, List, length, option_map, IfOk, IfSome};
+ghost use Rattle.std.specs.Prelude.{◌≡◌, ◌≤◌, ◌<◌, ◌+◌, ◌^◌, ◌||◌, List, length, option_map, IfOk, IfErr, IfSome};
 ghost use Rattle.record_core.specs.Record.{body_len, is_reserved, types_in, spans_of};
 ghost use Rattle.record_core.specs.Tally.{tally_of, more_within, layout_of, HasValues};
+ghost use Rattle.record_core.specs.Faults.{IsCause};
 ghost use Rattle.record_core.specs.Spelling.{AreSpans, IsRecord, spans_in};
 ghost use Rattle.record_core.specs.declared.values.Value.{Value};
 
@@ -46,6 +47,7 @@ pub fn record_spans(payload: &[u8]) -> Result<RecordSpans, RecordFault>
     // The sizes of a record with few values are answered.
     ensures only { (vs : List Value) (r : IsRecord payload.now vs) → length vs ≤ 1996 → result ≡ Ok (spans_in r) }
     ensures exact { result ≡ spans_of payload.now }
+    ensures fault { IfErr result (IsCause payload.now) }
 {
     spans(payload)
 }
@@ -149,6 +151,7 @@ fn add_body(bodies: Option<usize>, more: u64, room: usize) -> Option<usize>
 #[tactic(auto, unfolding(crate::specs::Record::body_len))]
 pub fn body_len(kind: u64) -> u64
     ensures value { result ≡ body_len kind }
+    ensures short { kind < 12 → result ≤ 8 }
 {
     match kind {
         0..=4 => kind,

@@ -1,8 +1,12 @@
 //! Varints: whole numbers below 2^64 in one to nine bytes (docs/FORMAT.md, "Varints").
 #![tactic(auto)]
 
+mod writing;
+
 ghost use Rattle.std.specs.Prelude.{◌≡◌, ◌≤◌, ◌+◌, ◌↔◌, ℕ, List, [], ◌++◌, length, take, drop, IfSome, IsNone};
 ghost use Rattle.varint_core.specs.Varint.{IsVarint, EndsInside, IsReadWhole, varint_at};
+
+pub use writing::{a_spelling_is_read_back, varint_len, write_varint};
 
 /// The varint at a place in the bytes: its value, and its length of 1 to 9 bytes
 /// (fileformat2.html, 1.6). `None` where the bytes end inside it.

@@ -17,3 +17,26 @@ fn bytes_that_end_inside_a_varint_give_none(rt: HostRuntime) {
     assert_eq!(rt; read_varint(&[], 0), None);
     assert_eq!(rt; read_varint(&[0x05], 1), None);
 }
+
+#[test]
+fn the_shortest_spellings_are_written(rt: HostRuntime) {
+    assert_eq!(rt; write_varint(0).as_slice(), [0x00].as_slice());
+    assert_eq!(rt; write_varint(127).as_slice(), [0x7f].as_slice());
+    assert_eq!(rt; write_varint(128).as_slice(), [0x81, 0x00].as_slice());
+    assert_eq!(rt;
+        write_varint(16384).as_slice(),
+        [0x81, 0x80, 0x00].as_slice()
+    );
+    let wanted = [0x80, 0xc0, 0x80, 0x80, 0x80, 0x80, 0x80, 0x80, 0x00];
+    assert_eq!(rt; write_varint(1 << 56).as_slice(), wanted.as_slice());
+    assert_eq!(rt; write_varint(u64::MAX).as_slice(), [0xff; 9].as_slice());
+    for (number, len) in [
+        (0, 1),
+        (16383, 2),
+        (16384, 3),
+        ((1 << 56) - 1, 8),
+        (1 << 56, 9),
+    ] {
+        assert_eq!(rt; varint_len(number), len);
+    }
+}

@@ -1,4 +1,5 @@
 use Rattle.record_core.proofs.Found.{answer_found}
+use Rattle.record_core.proofs.Causes.{answer_fault}
 use Rattle.record_core.proofs.Again.{answer_only}
 use Rattle.record_core.proofs.reading.read_record.Goals as goal
 
@@ -7,3 +8,6 @@ returns-clause-found c = answer_found (λ v. v.items) c.args.payload.now c.decod
 
 pub returns-clause-only : goal.returns-clause-only
 returns-clause-only c = answer_only (λ v. v.items) c.args.payload.now c.decode.result c.decode.ensures
+
+pub returns-clause-fault : goal.returns-clause-fault
+returns-clause-fault c = answer_fault (λ v. v.items) c.args.payload.now c.decode.result c.decode.ensures

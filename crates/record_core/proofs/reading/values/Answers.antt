@@ -1,6 +1,6 @@
 use Rattle.std.proofs.Common.{arith, sym, subst, ◌≤◌, ◌+◌, length, rules, List}
 use Rattle.record_core.specs.declared.values.Value.{Value}
-use Rattle.record_core.proofs.Fields.{Left, left_start, left_step, left_pushed}
+use Rattle.record_core.proofs.InTurn.{Left, left_start, left_step, left_pushed}
 use Rattle.record_core.proofs.reading.values.Goals as goal
 
 pub types-init : goal.types-init

@@ -1,5 +1,5 @@
 use Rattle.std.proofs.Common.{◌-◌, length}
-use Rattle.record_core.proofs.Fields.{Left}
+use Rattle.record_core.proofs.InTurn.{Left}
 use Rattle.record_core.proofs.reading.values.Given as goal
 
 abbrev pub invariant-types : goal.invariant-types

@@ -1,5 +1,6 @@
 use Rattle.std.proofs.Common.{◌∙◌}
 use Rattle.record_core.proofs.Found.{answer_spans}
+use Rattle.record_core.proofs.Causes.{spans_fault}
 use Rattle.record_core.proofs.Again.{spans_again}
 use Rattle.record_core.proofs.spans.record_spans.Goals as goal
 
@@ -8,3 +9,6 @@ returns-clause-found c = answer_spans c.args.payload.now c.spans.result c.spans.
 
 pub returns-clause-only : goal.returns-clause-only
 returns-clause-only c = λ vs r few. c.spans.ensures ∙ spans_again c.args.payload.now vs r few
+
+pub returns-clause-fault : goal.returns-clause-fault
+returns-clause-fault c = spans_fault c.args.payload.now c.spans.result c.spans.ensures

@@ -1,0 +1,10 @@
+use Rattle.std.proofs.Common.{arith}
+use Rattle.record_core.specs.Shortest.{body_of}
+use Rattle.record_core.proofs.Rows.{pieces_len, text_sum}
+use Rattle.record_core.proofs.writing.bodies_len.Goals as goal
+
+pub loop-i-preserved : goal.loop-i-preserved
+loop-i-preserved g c =
+    let more = pieces_len body_of (g.F.Fields.values c.args.values.now) c.loop-i.i c.field.result.now (omega arith) c.field.ensures in
+    let sum = text_sum (g.F.Fields.values c.args.values.now) c.loop-i.i c.field.result.now (omega arith) c.field.ensures in
+    (omega (arith, c.loop-i.invariant.0, more, c.body_size-total.ensures.value), omega (arith, c.loop-i.invariant.1, sum, c.body_size-total.ensures.bound))

@@ -1,11 +1,11 @@
 -- Moves of pages out of list 0, one after another: which pages stay there, and which list has the others.
 use Rattle.std.proofs.Common.{◌≡◌, ◌≢◌, ℕ, zero, suc, ◌+◌, ◌<◌, ◌≤◌, true, false, ◌==◌, nat_le, List, [], ◌∷◌, ◌++◌, length, map, refl, sym, ap, ◌∙◌, subst, inl, inr, arith}
-use Rattle.std.proofs.lemmas.Bool.{false≢true, cases_lt, and_left, and_right, lt-leb, ne_eqb}
+use Rattle.std.proofs.lemmas.Bool.{false≢true, cases_lt, and_from, and_left, and_right, le-leb, lt-leb, ne_eqb}
 use Rattle.std.proofs.lemmas.Bool.Decides.{eqb_tells}
 use Rattle.std.proofs.lemmas.List.{append_assoc, append-nil, length-map, get_or-set_same, get_or-set_other}
 use Rattle.std.specs.List.{concat}
 use Rattle.page_lists.specs.Lists.{IsPartOf, is_in, count, without, minus}
-use Rattle.page_lists.specs.Table.{Table, IsPartition, Moves, list_at, unused, owner, moved_in, moved, all_moved}
+use Rattle.page_lists.specs.Table.{Table, IsPartition, Moves, is_page, list_at, unused, owner, moved_in, moved, all_moved}
 use Rattle.page_lists.proofs.Counts.{in_or_not, in_part, in_head, count_in, not_in_from_count, without_not_in, count-append, count-minus, part_append, part_none, part_one, part_rest}
 use Rattle.page_lists.proofs.Moves.{IsPartition-moved, length-moved, list_at_out, owner-moved-other, stands_once}
 
@@ -54,6 +54,13 @@ unused_page t q each there =
             | inl above ↦ let none : count q (concat t.lists) ≡ 0 = rw (and_right (nat_le 1 q) (nat_le q t.pages) (lt-leb q t.pages above)) at (each q) in absurd (omega (arith, some, none))
             | inr high ↦ (low, high)
           ]
+    ]
+
+pub unused_not_page : (t : Table) (q : ℕ) → IsPartition t → is_page t.pages q ≡ false → is_in q (unused t) ≡ false
+unused_not_page t q each other =
+    elim (in_or_not q (unused t)) [
+      inl w ↦ let page = unused_page t q each w.0 in absurd (false≢true (sym other ∙ and_from (nat_le 1 q) (nat_le q t.pages) (le-leb 1 q page.0) (le-leb q t.pages page.1)))
+    | inr w ↦ w.0
     ]
 
 -- a page is unused exactly where its list is list 0

@@ -1,5 +1,5 @@
 -- The loop over the pages of a chain: what holds at each page, and what it leaves at each exit.
-use Rattle.std.proofs.Common.{◌≡◌, ℕ, ◌+◌, ◌-◌, ◌*◌, ◌<◌, ◌≤◌, true, false, if◌then◌else◌, Option, Some, None, IfSome, List, [], ◌∷◌, ◌++◌, length, take, refl, sym, ap, ◌∙◌, subst, arith}
+use Rattle.std.proofs.Common.{◌≡◌, ℕ, ◌+◌, ◌-◌, ◌*◌, ◌<◌, ◌≤◌, true, false, if◌then◌else◌, Option, Some, None, IfSome, Result, Ok, Err, IsErr, is_ok, List, [], ◌∷◌, ◌++◌, length, take, refl, sym, ap, ◌∙◌, subst, arith}
 use Rattle.std.proofs.Math.Nat.{mul-le-mul_right}
 use Rattle.std.specs.List.{slice_range}
 use Rattle.byteorder.specs.Endian.{big_number}
@@ -146,21 +146,15 @@ reading_broken {bytes = bytes} {geo = geo} {q} {need} {src} {t = t} {t'} {pages}
     told_one (λ all. Turning (file_of all geo) q need t t' pages pages' to to' missing at) (λ all. Turned (file_of all geo) q need t t' pages pages' to to' (Broken at why)) (bytes src)
       (λ all before. turning_broken (file_of all geo) q need t t' pages pages' to to' missing at why geo.usable_least some out why_is before) r.so_far
 
--- the reads at an answer
-pub paid_ok : {S : Type 0} (bytes : S → Option (List ℕ)) (reads : S → ℕ) (geo : Geometry) (src src' : S) (t t' : Table) → IfSome (bytes src) (λ all. Paid reads geo src src' t t' all)
-    → IfSome (bytes src) (λ all. IsWhole all geo → reads src' + length (unused t') ≤ reads src + length (unused t) + 0)
-paid_ok bytes reads geo src src' t t' paid =
-    told_one (λ all. Paid reads geo src src' t t' all) (λ all. IsWhole all geo → reads src' + length (unused t') ≤ reads src + length (unused t) + 0) (bytes src)
-      (λ all before whole. omega (arith, before whole)) paid
-
--- the reads at an error
-pub paid_err : {S : Type 0} {bytes attached : S → Option (List ℕ)} {faults reads : S → ℕ} {geo : Geometry} {q need : ℕ} {src src' : S} {t t' : Table} {pages pages' to to' : List ℕ} {missing at : ℕ}
-    → (src'' : S) (t'' : Table) → Reading bytes attached faults reads geo q need src src' t t' pages pages' to to' missing at → is_in at (unused t') ≡ true → t'' ≡ t'
+-- the reads at an error: one more, since the page was read and did not move
+pub paid_err : {S T E : Type 0} {bytes attached : S → Option (List ℕ)} {faults reads : S → ℕ} {geo : Geometry} {q need : ℕ} {src src' : S} {t t' : Table} {pages pages' to to' : List ℕ} {missing at : ℕ}
+    → (src'' : S) (t'' : Table) (r : Result T E) → IsErr r → Reading bytes attached faults reads geo q need src src' t t' pages pages' to to' missing at → is_in at (unused t') ≡ true → t'' ≡ t'
     → IfSome (bytes src') (λ all. at * geo.page_size ≤ length all → reads src'' ≤ reads src' + 1)
-    → IfSome (bytes src) (λ all. IsWhole all geo → reads src'' + length (unused t'') ≤ reads src + length (unused t) + 1)
-paid_err {bytes = bytes} {reads = reads} {geo = geo} {src = src} {src'} {t} {t'} {at = at} src'' t'' r there same one =
-    let page = reading_page r there in
+    → IfSome (bytes src) (λ all. IsWhole all geo → reads src'' + length (unused t'') ≤ reads src + length (unused t) + (if is_ok r then 0 else 1))
+paid_err src'' t'' (Ok x) is reading there same one = absurd cc
+paid_err {bytes = bytes} {reads = reads} {geo = geo} {src = src} {src'} {t} {t'} {at = at} src'' t'' (Err e) is reading there same one =
+    let page = reading_page reading there in
     let left : length (unused t'') ≡ length (unused t') = ap (λ (u : Table). length (unused u)) same in
     told (λ all. Paid reads geo src src' t t' all) (λ all. at * geo.page_size ≤ length all → reads src'' ≤ reads src' + 1)
-      (λ all. IsWhole all geo → reads src'' + length (unused t'') ≤ reads src + length (unused t) + 1) (bytes src) (bytes src') r.kept.told
-      (λ all before next whole. omega (arith, before whole, next (omega (arith, whole, mul-le-mul_right geo.page_size page.1)), left)) r.paid one
+      (λ all. IsWhole all geo → reads src'' + length (unused t'') ≤ reads src + length (unused t) + 1) (bytes src) (bytes src') reading.kept.told
+      (λ all before next whole. omega (arith, before whole, next (omega (arith, whole, mul-le-mul_right geo.page_size page.1)), left)) reading.paid one

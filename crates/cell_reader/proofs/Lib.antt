@@ -1,1 +1,4 @@
+pub mod Apart
+pub mod Marks
 pub mod Places
+pub mod Ranges

@@ -42,6 +42,7 @@ impl Accepted {
         requires within { end ≤ length self.old }
         ensures free { result ≡ is_free self.old start end }
         ensures held { self.new ≡ (if result then with_range self.old start end else self.old) }
+        ensures len { length self.new ≡ length self.old }
     {
         let range = &mut self.marks[start as usize..end as usize];
         let free = range.iter().all(|mark| !*mark);

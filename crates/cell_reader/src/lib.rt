@@ -4,9 +4,14 @@
 
 mod accepted;
 mod cells;
+mod laws;
 mod parts;
 mod shapes;
 
 pub use accepted::Accepted;
 pub use cells::{CellFault, CellView, cell};
+pub use laws::{accepted_cells_are_apart, marks_tell_verdicts};
 pub use shapes::{Kind, PageShape, right_child, shape};
+
+#[cfg(test)]
+mod tests;

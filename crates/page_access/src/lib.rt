@@ -4,7 +4,16 @@
 mod geometry;
 mod loads;
 mod outside;
+mod sinks;
+mod sources;
+mod sparse;
 
 pub use geometry::Geometry;
 pub use loads::{load, read_front};
 pub use outside::{Failed, ReadFault, Sink, Source};
+pub use sinks::{MemFail, MemSink, SureSink};
+pub use sources::{MemSource, SureSource};
+pub use sparse::SparseSource;
+
+#[cfg(test)]
+mod tests;

@@ -1,5 +1,5 @@
 -- What fits 64 bits while a varint is read.
-use Rattle.std.proofs.Common.{◌≡◌, ◌<◌, ◌≤◌, ℕ, ◌+◌, ◌*◌, ◌^◌, ◌%◌, arith, refl, lit≤, lit<}
+use Rattle.std.proofs.Common.{◌<◌, ◌≤◌, ℕ, ◌^◌, arith, lit<}
 use Rattle.std.proofs.Math.Nat.{pow-le-pow_right}
 
 -- the number before the ninth byte has 56 bits

@@ -45,3 +45,7 @@ varint_from k high (byte ∷ bytes) =
 -- the varint that begins the bytes, and its length
 unfoldable pub varint_at : List ℕ → Option (ℕ × ℕ)
 varint_at bytes = varint_from 0 0 bytes
+
+-- whatever spelling begins the bytes is what was read: its number and its length
+abbrev pub IsReadWhole : List ℕ → Option (ℕ × ℕ) → Type 0
+IsReadWhole bytes read = (s rest : List ℕ) (v : ℕ) → IsVarint s v → bytes ≡ s ++ rest → read ≡ Some (v, length s)

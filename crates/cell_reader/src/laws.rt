@@ -1,0 +1,13 @@
+//! What the definitions of accepted cells say.
+ghost use Rattle.cell_reader.specs.Laws.{AcceptedAreApart, MarksTellVerdicts};
+
+/// No two accepted cells of a page share a byte.
+pub fn accepted_cells_are_apart()
+    ensures { AcceptedAreApart }
+{}
+
+/// A walk over the cells of a page that marks the bytes of each cell it accepts, and accepts those
+/// none of whose bytes is marked, accepts the cells that overlap no accepted cell before them.
+pub fn marks_tell_verdicts()
+    ensures { MarksTellVerdicts }
+{}

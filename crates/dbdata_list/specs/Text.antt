@@ -1,0 +1,52 @@
+-- Lines of the listings (docs/TEXTS.md, "Listings").
+use Rattle.std.specs.Prelude.{ℕ, ℤ, ◌+◌, List, [], ◌∷◌, ◌++◌, Option, Some, None, codes, decimal}
+use Rattle.std.specs.Fmt.{signed_decimal}
+use Rattle.hex.specs.Hex.{encode_lower}
+use Rattle.record_core.specs.declared.values.Value.{Value}
+use Rattle.record_core.specs.declared.values.Value.TheVariants.{Null, Whole, Real8, Text, Blob}
+
+-- the text of a value
+abbrev pub value_text : Value → List ℕ
+value_text Null = codes "null"
+value_text (Whole n) = codes "int:" ++ signed_decimal n
+value_text (Real8 bytes) = codes "real:" ++ encode_lower bytes
+value_text (Text bytes) = codes "text:" ++ encode_lower bytes
+value_text (Blob bytes) = codes "blob:" ++ encode_lower bytes
+
+-- the end of a line
+abbrev pub newline : List ℕ
+newline = 10 ∷ []
+
+-- `PAGE CELL `, which begins each line of a cell
+unfoldable pub place_text : ℕ → ℕ → List ℕ
+place_text page cell = decimal page ++ (codes " " ++ (decimal cell ++ codes " "))
+
+-- `PAGE CELL FIELD `, which begins the line of a field
+unfoldable pub field_text : ℕ → ℕ → List ℕ → List ℕ
+field_text page cell field = place_text page cell ++ (field ++ codes " ")
+
+-- the line of a field
+unfoldable pub field_line : ℕ → ℕ → List ℕ → Value → List ℕ
+field_line page cell field value = field_text page cell field ++ (value_text value ++ newline)
+
+-- the line of a field whose value is a word behind the name of its type
+unfoldable pub word_line : ℕ → ℕ → List ℕ → List ℕ → List ℕ → List ℕ
+word_line page cell field name word = field_text page cell field ++ ((name ++ word) ++ newline)
+
+-- the lines of the fields from field i on
+abbrev pub fields_text : ℕ → ℕ → ℕ → List Value → List ℕ
+fields_text page cell i [] = []
+fields_text page cell i (value ∷ values) = field_line page cell (decimal i) value ++ fields_text page cell (i + 1) values
+
+-- the line of the rowid, as field -1, where there is one
+abbrev pub rowid_text : ℕ → ℕ → Option ℤ → List ℕ
+rowid_text page cell None = []
+rowid_text page cell (Some rowid) = field_line page cell (codes "-1") (Whole rowid)
+
+-- the lines of a row: its rowid, then its fields
+abbrev pub row_text : ℕ → ℕ → Option ℤ → List Value → List ℕ
+row_text page cell rowid values = rowid_text page cell rowid ++ fields_text page cell 0 values
+
+-- the line of a cell that is not read
+unfoldable pub unread_line : ℕ → ℕ → List ℕ → List ℕ
+unread_line page cell cause = place_text page cell ++ (codes "unread " ++ (cause ++ newline))

@@ -1,0 +1,10 @@
+use Rattle.std.proofs.Common.{length, ◌≡◌, ◌≤◌, ◌+◌, ◌-◌, ◌++◌}
+use Rattle.cell_reader.specs.Cell.{cell_of}
+use Rattle.cell_reader.specs.Cover.{marked_from}
+use Rattle.page_walk.specs.Pointers.{children_by, children_in}
+use Rattle.page_walk.proofs.Names.{Naming}
+use Rattle.page_walk.proofs.named.push_children.Given as goal
+
+abbrev pub invariant-loop-i : goal.invariant-loop-i
+invariant-loop-i l =
+    Naming l.page l.geo.usable l.geo.pages l.shape l.fn.to.items l.to.items l.i l.accepted

@@ -1,0 +1,87 @@
+//! Reading a record.
+
+ghost use Rattle.std.specs.Prelude.{◌≡◌, ◌≤◌, ℕ, List, length, IfOk, IsSomeAnd};
+ghost use Rattle.record_core.specs.Record.{body_len, bodies_len, types_in, value_of, values_of, record_of, Gives};
+ghost use Rattle.record_core.specs.Spelling.{IsRecord};
+
+use crate::faults::RecordFault;
+use crate::spans::{body_len, read_layout};
+use crate::values::{Bytes, Value};
+use byteorder::{BigEndian, ByteOrder};
+use std::alloc::{AllocError, Global};
+use varint_core::read_varint;
+
+/// The values of the record at the front of the payload; bytes may follow them (fileformat2.html, 2.1).
+/// The faults are tested in the order of `RecordFault`, and `Memory` comes only where none of the others holds.
+pub fn read_record(alloc: Global, payload: &[u8]) -> Result<Vec<Value>, RecordFault>
+    // What is answered is spelled by the payload.
+    ensures found { IfOk result (λ v. IsRecord payload.now v.items) }
+    // What the payload spells, with few values, is answered, unless memory runs out.
+    ensures only { (vs : List Value) → IsRecord payload.now vs → length vs ≤ 1996 → Gives (λ v. v.items) result (Ok vs) }
+    ensures exact { Gives (λ v. v.items) result (record_of payload.now) }
+{
+    decode(alloc, payload)
+}
+
+// The values of the record, or the first fault.
+fn decode(alloc: Global, payload: &[u8]) -> Result<Vec<Value>, RecordFault>
+    ensures { Gives (λ v. v.items) result (record_of payload.now) }
+{
+    let layout = read_layout(payload)?;
+    let types = &payload[layout.start..layout.spans.header];
+    let bodies = &payload[layout.spans.header..];
+    match values(alloc, types, bodies, layout.spans.fields as usize) {
+        Ok(values) => Ok(values),
+        Err(AllocError) => Err(RecordFault::Memory),
+    }
+}
+
+// The values of the serial types that fill the bytes.
+fn values(
+    alloc: Global,
+    types: &[u8],
+    bodies: &[u8],
+    fields: usize,
+) -> Result<Vec<Value>, AllocError>
+    requires { IsSomeAnd (types_in types.now) (λ ts. bodies_len ts ≤ length bodies.now) }
+    ensures { IfOk result (λ v. (ts : List ℕ) → types_in types.now ≡ Some ts → v.items ≡ values_of ts bodies.now) }
+{
+    let mut values = Vec::with_capacity(alloc, fields)?;
+    let mut at = 0;
+    let mut from = 0;
+    'types: while at < types.len() {
+        let (kind, len) = read_varint(types, at).unwrap();
+        let end = from + body_len(kind) as usize;
+        values.push(value_at(alloc, kind, &bodies[from..end])?)?;
+        at += len;
+        from = end;
+    }
+    Ok(values)
+}
+
+// The value that a serial type and its body stand for.
+#[tactic(auto, unfolding(crate::specs::Record::value_of, crate::specs::Record::body_len))]
+fn value_at(alloc: Global, kind: u64, body: &[u8]) -> Result<Value, AllocError>
+    requires { length body.now ≡ body_len kind }
+    ensures { IfOk result (λ v. v ≡ value_of kind body.now) }
+{
+    Ok(match kind {
+        0 => Value::Null,
+        1..=6 => Value::Whole(BigEndian::read_int(body, body.len())),
+        7 => Value::Real8(eight(body)),
+        8 => Value::Whole(0),
+        9 => Value::Whole(1),
+        _ if kind % 2 == 0 => Value::Blob(Bytes::copy_of(alloc, body)?),
+        _ => Value::Text(Bytes::copy_of(alloc, body)?),
+    })
+}
+
+// Eight bytes as an array.
+fn eight(body: &[u8]) -> [u8; 8]
+    requires { length body.now ≡ 8 }
+    ensures { result ≡ body.now }
+{
+    let mut bytes = [0; 8];
+    bytes.copy_from_slice(body);
+    bytes
+}

@@ -1,0 +1,170 @@
+//! The real objects of the outside: a file, and the standard streams. They tell no bytes, and count
+//! each error of the system as a fault.
+ghost use Rattle.std.specs.Prelude.{None, false, ◌-◌, ◌^◌, string_bytes};
+ghost use Rattle.std.specs.Option.{option_map};
+
+use page_access::{Failed, Sink, Source};
+use std::fs::{self, OpenFile};
+use std::io::Write;
+use std::os::unix::fs::FileExt;
+use std::rt::Files;
+
+/// A file that is opened by name and read at any place.
+#[derive(Drop)]
+pub struct FileSource<'a, R: Files>
+where
+    R::File: Drop,
+{
+    rt: &'a R,
+    file: Option<R::File>,
+    name: Option<String>,
+    faults: u64,
+    reads: u64,
+}
+
+impl<'a, R: Files> FileSource<'a, R>
+where
+    R::File: Drop,
+{
+    /// No file yet.
+    pub fn new(rt: &'a R) -> Self {
+        FileSource {
+            rt,
+            file: None,
+            name: None,
+            faults: 0,
+            reads: 0,
+        }
+    }
+}
+
+impl<R: Files> Source for FileSource<'_, R>
+where
+    R::File: FileExt + OpenFile + Drop,
+{
+    ghost bytes = { λ _. None };
+
+    ghost attached = { λ s. option_map string_bytes s.name };
+
+    ghost faults = { λ s. s.faults };
+
+    ghost reads = { λ s. s.reads };
+
+    fn attach(&mut self, name: String) -> Result<(), Failed> {
+        match fs::open(self.rt, name.as_str()) {
+            Ok(file) => {
+                self.file = Some(file);
+                self.name = Some(name);
+                Ok(())
+            }
+            Err(_) => {
+                self.faults = self.faults.saturating_add(1);
+                Err(Failed)
+            }
+        }
+    }
+
+    fn length(&mut self) -> Result<u64, Failed> {
+        if let Some(file) = &self.file {
+            if let Ok(metadata) = file.metadata() {
+                return Ok(metadata.len());
+            }
+        }
+        self.faults = self.faults.saturating_add(1);
+        Err(Failed)
+    }
+
+    fn read_at(&mut self, at: u64, to: &mut [u8]) -> Result<usize, Failed> {
+        self.reads = self.reads.saturating_add(1);
+        if let Some(file) = &self.file {
+            if let Ok(count) = file.read_at(to, at) {
+                return Ok(count);
+            }
+        }
+        self.faults = self.faults.saturating_add(1);
+        Err(Failed)
+    }
+}
+
+/// A stream that is written to, as standard output behind a buffer. A name that it is given changes
+/// nothing but the created name.
+#[derive(Drop)]
+pub struct StreamSink<W: Write + Drop> {
+    writer: W,
+    name: Option<String>,
+    finished: bool,
+    faults: u64,
+}
+
+impl<W: Write + Drop> StreamSink<W> {
+    /// Nothing is put yet.
+    pub fn new(writer: W) -> Self {
+        StreamSink {
+            writer,
+            name: None,
+            finished: false,
+            faults: 0,
+        }
+    }
+}
+
+impl<W: Write + Drop> Sink for StreamSink<W> {
+    ghost bytes = { λ _. None };
+
+    ghost created = { λ s. option_map string_bytes s.name };
+
+    ghost finished = { λ s. s.finished };
+
+    ghost faults = { λ s. s.faults };
+
+    fn create(&mut self, name: String) -> Result<(), Failed> {
+        self.finished = false;
+        self.name = Some(name);
+        Ok(())
+    }
+
+    fn put(&mut self, piece: &[u8]) -> Result<(), Failed> {
+        self.finished = false;
+        if self.writer.write_all(piece).is_ok() {
+            return Ok(());
+        }
+        self.faults = self.faults.saturating_add(1);
+        Err(Failed)
+    }
+
+    fn finish(&mut self) -> Result<(), Failed> {
+        if self.writer.flush().is_ok() {
+            self.finished = true;
+            return Ok(());
+        }
+        self.finished = false;
+        self.faults = self.faults.saturating_add(1);
+        Err(Failed)
+    }
+}
+
+/// A target that no mode uses yet: each call fails, and the count of its faults stands at its last value.
+#[derive(Drop)]
+pub struct NoSink;
+
+impl Sink for NoSink {
+    ghost bytes = { λ _. None };
+
+    ghost created = { λ _. None };
+
+    ghost finished = { λ _. false };
+
+    ghost faults = { λ _. 2 ^ 64 - 1 };
+
+    fn create(&mut self, _name: String) -> Result<(), Failed> {
+        Err(Failed)
+    }
+
+    fn put(&mut self, _piece: &[u8]) -> Result<(), Failed> {
+        Err(Failed)
+    }
+
+    fn finish(&mut self) -> Result<(), Failed> {
+        Err(Failed)
+    }
+}

@@ -15,16 +15,16 @@ pub turn_part : (next : ℕ → ℕ) (k : ℕ) (unused : List ℕ) (q : ℕ) →
 turn_part next zero unused q p = omega arith
 turn_part next (suc k) unused q p =
     elim (in_or_not q unused) [
-      inl w ↦ rw w.0 (omega (arith, turn_part next k (without q unused) (next q) p, count-without p q unused w.0))
-    | inr w ↦ rw w.0 (omega arith)
+      | inl w ↦ rw w.0 (omega (arith, turn_part next k (without q unused) (next q) p, count-without p q unused w.0))
+      | inr w ↦ rw w.0 (omega arith)
     ]
 
 pub turn_linked : (next : ℕ → ℕ) (k : ℕ) (unused : List ℕ) (q : ℕ) → Linked next q (turn next k unused q)
 turn_linked next zero unused q = tt
 turn_linked next (suc k) unused q =
     elim (in_or_not q unused) [
-      inl w ↦ rw w.0 (refl, turn_linked next k (without q unused) (next q))
-    | inr w ↦ rw w.0 tt
+      | inl w ↦ rw w.0 (refl, turn_linked next k (without q unused) (next q))
+      | inr w ↦ rw w.0 tt
     ]
 
 -- one page more before the end
@@ -41,10 +41,10 @@ pub turn_ends : (next : ℕ → ℕ) (n k : ℕ) (unused : List ℕ) (q : ℕ)
 turn_ends next n zero unused q = refl
 turn_ends next n (suc k) unused q =
     elim (in_or_not q unused) [
-      inl w ↦
-      rw w.0 (ends_more n k q (reached next (next q) (turn next k (without q unused) (next q))) (turn next k (without q unused) (next q))
+      | inl w ↦
+          rw w.0 (ends_more n k q (reached next (next q) (turn next k (without q unused) (next q))) (turn next k (without q unused) (next q))
           (minus (without q unused) (turn next k (without q unused) (next q))) (turn_end next n k (without q unused) (next q)) (turn_ends next n k (without q unused) (next q)))
-    | inr w ↦ rw w.0 (omega arith, w.0, refl, refl)
+      | inr w ↦ rw w.0 (omega arith, w.0, refl, refl)
     ]
 
 -- pages and an end that are a turn's are those that are computed
@@ -62,7 +62,7 @@ longest next n (suc k) unused q (p ∷ pages) end part linked ends =
     let there : is_in p unused ≡ true = in_part p (p ∷ pages) unused part (in_head p pages) in
     let here : is_in q unused ≡ true = subst (λ (m : ℕ). is_in m unused ≡ true) linked.0 there in
     let rest = longest next n k (without p unused) (next p) pages end (part_rest p pages unused part) linked.1
-          (ends_less n k p (reached next (next p) pages) pages (minus (without p unused) pages) end ends) in
+    (ends_less n k p (reached next (next p) pages) pages (minus (without p unused) pages) end ends) in
     let pages_are : pages ≡ turn next k (without q unused) (next q) = subst (λ (m : ℕ). pages ≡ turn next k (without m unused) (next m)) linked.0 rest.0 in
     let end_is : end ≡ turn_end next n k (without q unused) (next q) = subst (λ (m : ℕ). end ≡ turn_end next n k (without m unused) (next m)) linked.0 rest.1 in
     (rw (here, linked.0) (ap (λ (xs : List ℕ). q ∷ xs) pages_are), rw here end_is)
@@ -86,14 +86,14 @@ turn_is_longest f q need unused pages end = (
 pub whole_turn_is_chain : WholeIsAlwaysChain
 whole_turn_is_chain f q need unused once = record {
   is_chain = λ whole.
-    let ends = turn_ends (next_page f) f.pages (chain_len f need) unused q in
-    record {
-      many = subst (λ (end : ChainEnd). EndsSo f.pages (chain_len f need) (turn_of f q need unused) (minus unused (turn_of f q need unused)) (reached (next_page f) q (turn_of f q need unused)) end) whole ends;
-      inside = λ p. omega (arith, turn_part (next_page f) (chain_len f need) unused q p, once p);
-      linked = turn_linked (next_page f) (chain_len f need) unused q;
-      bytes_are = refl;
-    };
+      let ends = turn_ends (next_page f) f.pages (chain_len f need) unused q in
+      record {
+        many = subst (λ (end : ChainEnd). EndsSo f.pages (chain_len f need) (turn_of f q need unused) (minus unused (turn_of f q need unused)) (reached (next_page f) q (turn_of f q need unused)) end) whole ends;
+        inside = λ p. omega (arith, turn_part (next_page f) (chain_len f need) unused q p, once p);
+        linked = turn_linked (next_page f) (chain_len f need) unused q;
+        bytes_are = refl;
+      };
   takes_it = λ pages bytes chain part.
-    let both = longest (next_page f) f.pages (chain_len f need) unused q pages Whole part chain.linked chain.many in
-    (sym both.1, sym both.0, ap (λ (xs : List ℕ). take need (contents f xs)) (sym both.0) ∙ sym chain.bytes_are);
+      let both = longest (next_page f) f.pages (chain_len f need) unused q pages Whole part chain.linked chain.many in
+      (sym both.1, sym both.0, ap (λ (xs : List ℕ). take need (contents f xs)) (sym both.0) ∙ sym chain.bytes_are);
 }

@@ -11,7 +11,7 @@ use Rattle.page_access.proofs.Keeps.{KeepsSource-refl, KeepsSource-trans}
 use Rattle.page_lists.specs.Lists.{count, is_in, without}
 use Rattle.page_lists.specs.Table.{Table, IsPartition, Moves, is_page, moved, unused}
 use Rattle.page_lists.proofs.Counts.{length-without}
-use Rattle.page_lists.proofs.Uses.{Moves-append, Moves-lists, Moves-none, Moves-one, Moves-pages, Moves-partition, count-list_at, unused-moved, unused_not_page, unused_page}
+use Rattle.page_lists.proofs.Uses.{Moves-append, Moves-none, Moves-one, Moves-partition, count-list_at, unused-moved, unused_not_page, unused_page}
 use Rattle.overflow_chain.specs.Turn.{GivesChain, Turned, bytes_of, turn_of, why_not}
 use Rattle.overflow_chain.specs.declared.ChainEnd.{ChainEnd}
 use Rattle.overflow_chain.specs.declared.ChainEnd.TheVariants.{Whole, Broken}
@@ -44,7 +44,7 @@ Paid reads geo src src' t t' all = IsWhole all geo → reads src' + length (unus
 
 -- at each page of the chain
 pub record Reading {S : Type 0} (bytes attached : S → Option (List ℕ)) (faults reads : S → ℕ) (geo : Geometry) (q need : ℕ) (src src' : S) (t t' : Table)
-  (pages pages' to to' : List ℕ) (missing at : ℕ) : Type 0 where
+    (pages pages' to to' : List ℕ) (missing at : ℕ) : Type 0 where
   pub kept : KeepsSource bytes attached faults reads src src'
   pub each : IsPartition t
   pub same_pages : t.pages ≡ geo.pages
@@ -72,11 +72,11 @@ reading_partition {t = t} {t' = t'} r = Moves-partition OVERFLOW_LIST t t' (omeg
 
 pub reading_pages : {S : Type 0} {bytes attached : S → Option (List ℕ)} {faults reads : S → ℕ} {geo : Geometry} {q need : ℕ} {src src' : S} {t t' : Table} {pages pages' to to' : List ℕ} {missing at : ℕ}
     → Reading bytes attached faults reads geo q need src src' t t' pages pages' to to' missing at → t'.pages ≡ geo.pages
-reading_pages {t = t} {t' = t'} r = Moves-pages OVERFLOW_LIST t t' r.moves ∙ r.same_pages
+reading_pages r = r.moves.same_pages ∙ r.same_pages
 
 pub reading_lists : {S : Type 0} {bytes attached : S → Option (List ℕ)} {faults reads : S → ℕ} {geo : Geometry} {q need : ℕ} {src src' : S} {t t' : Table} {pages pages' to to' : List ℕ} {missing at : ℕ}
     → Reading bytes attached faults reads geo q need src src' t t' pages pages' to to' missing at → 7 ≤ length t'.lists
-reading_lists {t = t} {t' = t'} r = omega (arith, Moves-lists OVERFLOW_LIST t t' r.moves, r.lists)
+reading_lists r = omega (arith, r.moves.same_lists, r.lists)
 
 -- an unused page is one of the geometry's
 pub reading_page : {S : Type 0} {bytes attached : S → Option (List ℕ)} {faults reads : S → ℕ} {geo : Geometry} {q need : ℕ} {src src' : S} {t t' : Table} {pages pages' to to' : List ℕ} {missing at : ℕ}
@@ -106,13 +106,13 @@ reading_more {bytes = bytes} {reads = reads} {geo = geo} {q} {need} {src} {src'}
       moves = Moves-append OVERFLOW_LIST t t' t'' (omega arith) r.moves (subst (λ (u : Table). Moves OVERFLOW_LIST t' u) (sym moves) (Moves-one OVERFLOW_LIST t' at there));
       paid =
           told (λ all. Paid reads geo src src' t t' all) (λ all. at * geo.page_size ≤ length all → reads src'' ≤ reads src' + 1) (λ all. Paid reads geo src src'' t t'' all)
-            (bytes src) (bytes src') r.kept.told
-            (λ all before next whole. omega (arith, before whole, next (omega (arith, whole, mul-le-mul_right geo.page_size page.1)), shorter)) r.paid one;
+          (bytes src) (bytes src') r.kept.told
+          (λ all before next whole. omega (arith, before whole, next (omega (arith, whole, mul-le-mul_right geo.page_size page.1)), shorter)) r.paid one;
       so_far = rw (follow, less)
           (told (λ all. Turning (file_of all geo) q need t t' pages pages' to to' missing at) (λ all. buffer ≡ page_of all geo.page_size at)
-            (λ all. Turning (file_of all geo) q need t t'' pages pages'' to to'' (missing - (geo.usable - 4)) (big_number 4 buffer)) (bytes src) (bytes src') r.kept.told
-            (λ all before is. turning_more (file_of all geo) q need t t' t'' pages pages' pages'' to to' to'' buffer missing at geo.usable_least geo.usable_most some there is pushed put moves before)
-            r.so_far read);
+          (λ all. Turning (file_of all geo) q need t t'' pages pages'' to to'' (missing - (geo.usable - 4)) (big_number 4 buffer)) (bytes src) (bytes src') r.kept.told
+          (λ all before is. turning_more (file_of all geo) q need t t' t'' pages pages' pages'' to to' to'' buffer missing at geo.usable_least geo.usable_most some there is pushed put moves before)
+          r.so_far read);
     }
 
 -- nothing is missing
@@ -121,7 +121,7 @@ pub reading_done : {S : Type 0} {bytes attached : S → Option (List ℕ)} {faul
     → IfSome (bytes src) (λ all. Turned (file_of all geo) q need t t' pages pages' to to' Whole)
 reading_done {bytes = bytes} {geo = geo} {q} {need} {src} {t = t} {t'} {pages} {pages'} {to} {to'} {missing} {at} r none =
     told_one (λ all. Turning (file_of all geo) q need t t' pages pages' to to' missing at) (λ all. Turned (file_of all geo) q need t t' pages pages' to to' Whole) (bytes src)
-      (λ all before. turning_done (file_of all geo) q need t t' pages pages' to to' missing at geo.usable_least none before) r.so_far
+    (λ all before. turning_done (file_of all geo) q need t t' pages pages' to to' missing at geo.usable_least none before) r.so_far
 
 -- the unused pages of the table are pages of the file, each once
 unused_once : (t : Table) (p : ℕ) → IsPartition t → count p (unused t) ≤ (if is_page t.pages p then 1 else 0)
@@ -133,9 +133,14 @@ pub reading_chain : {S : Type 0} {bytes attached : S → Option (List ℕ)} {fau
     → IfSome (bytes src) (λ all. GivesChain (file_of all geo) q need pages pages' to to' Whole)
 reading_chain {bytes = bytes} {geo = geo} {q} {need} {src} {t = t} {t'} {pages} {pages'} {to} {to'} r none =
     told_one (λ all. Turned (file_of all geo) q need t t' pages pages' to to' Whole) (λ all. GivesChain (file_of all geo) q need pages pages' to to' Whole) (bytes src)
-      (λ all is. (turn_of (file_of all geo) q need (unused t), bytes_of (file_of all geo) q need (unused t), is.pages_are, is.bytes_are,
-        (whole_turn_is_chain (file_of all geo) q need (unused t) (λ p. subst (λ (n : ℕ). count p (unused t) ≤ (if is_page n p then 1 else 0)) r.same_pages (unused_once t p r.each))).is_chain (sym is.end_is)))
-      (reading_done r none)
+    (λ all is. (
+      turn_of (file_of all geo) q need (unused t),
+      bytes_of (file_of all geo) q need (unused t),
+      is.pages_are,
+      is.bytes_are,
+      (whole_turn_is_chain (file_of all geo) q need (unused t) (λ p. subst (λ (n : ℕ). count p (unused t) ≤ (if is_page n p then 1 else 0)) r.same_pages (unused_once t p r.each))).is_chain (sym is.end_is),
+    ))
+    (reading_done r none)
 
 -- bytes are missing, and the page cannot be taken
 pub reading_broken : {S : Type 0} {bytes attached : S → Option (List ℕ)} {faults reads : S → ℕ} {geo : Geometry} {q need : ℕ} {src src' : S} {t t' : Table} {pages pages' to to' : List ℕ} {missing at : ℕ}
@@ -144,7 +149,7 @@ pub reading_broken : {S : Type 0} {bytes attached : S → Option (List ℕ)} {fa
 reading_broken {bytes = bytes} {geo = geo} {q} {need} {src} {t = t} {t'} {pages} {pages'} {to} {to'} {missing} {at} why r some out is =
     let why_is : why ≡ why_not geo.pages at = rw (reading_pages r) at is in
     told_one (λ all. Turning (file_of all geo) q need t t' pages pages' to to' missing at) (λ all. Turned (file_of all geo) q need t t' pages pages' to to' (Broken at why)) (bytes src)
-      (λ all before. turning_broken (file_of all geo) q need t t' pages pages' to to' missing at why geo.usable_least some out why_is before) r.so_far
+    (λ all before. turning_broken (file_of all geo) q need t t' pages pages' to to' missing at why geo.usable_least some out why_is before) r.so_far
 
 -- the reads at an error: one more, since the page was read and did not move
 pub paid_err : {S T E : Type 0} {bytes attached : S → Option (List ℕ)} {faults reads : S → ℕ} {geo : Geometry} {q need : ℕ} {src src' : S} {t t' : Table} {pages pages' to to' : List ℕ} {missing at : ℕ}
@@ -156,5 +161,5 @@ paid_err {bytes = bytes} {reads = reads} {geo = geo} {src = src} {src'} {t} {t'}
     let page = reading_page reading there in
     let left : length (unused t'') ≡ length (unused t') = ap (λ (u : Table). length (unused u)) same in
     told (λ all. Paid reads geo src src' t t' all) (λ all. at * geo.page_size ≤ length all → reads src'' ≤ reads src' + 1)
-      (λ all. IsWhole all geo → reads src'' + length (unused t'') ≤ reads src + length (unused t) + 1) (bytes src) (bytes src') reading.kept.told
-      (λ all before next whole. omega (arith, before whole, next (omega (arith, whole, mul-le-mul_right geo.page_size page.1)), left)) reading.paid one
+    (λ all. IsWhole all geo → reads src'' + length (unused t'') ≤ reads src + length (unused t) + 1) (bytes src) (bytes src') reading.kept.told
+    (λ all before next whole. omega (arith, before whole, next (omega (arith, whole, mul-le-mul_right geo.page_size page.1)), left)) reading.paid one

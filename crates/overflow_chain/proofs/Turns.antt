@@ -23,14 +23,14 @@ no_page d over = let less : 0 + (d - 1) < d = omega arith in div-eq_of_lt less
 one_page : (d m : ℕ) → 0 < d → 0 < m → (m + (d - 1)) / d ≡ suc ((m - d + (d - 1)) / d)
 one_page d m over some =
     elim (cases_lt d m) [
-      inl more ↦
-      let e : m + (d - 1) ≡ m - d + (d - 1) + d = omega (arith, more) in
-      rw e (omega (arith, add-div_right (m - d + (d - 1)) over))
-    | inr last ↦
-      let e : m + (d - 1) ≡ m - 1 + d = omega (arith, last) in
-      let less : m - 1 < d = omega (arith, last) in
-      let rest : m - d + (d - 1) ≡ 0 + (d - 1) = omega (arith, last) in
-      rw (e, rest, no_page d over) (omega (arith, add-div_right (m - 1) over, div-eq_of_lt less))
+      | inl more ↦
+          let e : m + (d - 1) ≡ m - d + (d - 1) + d = omega (arith, more) in
+          rw e (omega (arith, add-div_right (m - d + (d - 1)) over))
+      | inr last ↦
+          let e : m + (d - 1) ≡ m - 1 + d = omega (arith, last) in
+          let less : m - 1 < d = omega (arith, last) in
+          let rest : m - d + (d - 1) ≡ 0 + (d - 1) = omega (arith, last) in
+          rw (e, rest, no_page d over) (omega (arith, add-div_right (m - 1) over, div-eq_of_lt less))
     ]
 
 pub chain_len-zero : (f : File) → 480 ≤ f.usable → chain_len f 0 ≡ 0
@@ -75,8 +75,8 @@ pub bytes_taken : (f : File) (at m : ℕ) (unused : List ℕ) → 480 ≤ f.usab
     → bytes_of f at m unused ≡ take m (content_of f at) ++ bytes_of f (next_page f at) (m - (f.usable - 4)) (without at unused)
 bytes_taken f at m unused big fits some there =
     rw (turn_taken f at m unused big some there)
-      (take_behind m (content_of f at) (contents f (turn_of f (next_page f at) (m - (f.usable - 4)) (without at unused)))
-       ∙ rw (length-content f at fits) refl)
+    (take_behind m (content_of f at) (contents f (turn_of f (next_page f at) (m - (f.usable - 4)) (without at unused)))
+    ∙ rw (length-content f at fits) refl)
 
 -- a turn at a page that cannot be taken
 pub turn_refused : (f : File) (at m : ℕ) (unused : List ℕ) → 480 ≤ f.usable → 0 < m → is_in at unused ≡ false → turn_of f at m unused ≡ []

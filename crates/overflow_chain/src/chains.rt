@@ -34,18 +34,18 @@ pub fn read_chain<S: Source>(
     requires need_most { need ≤ geo.now.pages * geo.now.usable }
     ensures value { IfOk result (λ end. IfSome (S.bytes src.old)
         (λ all. Turned (file_of all geo.now) first need table.old table.new
-          pages.old.items pages.new.items to.old.items to.new.items end)) }
+        pages.old.items pages.new.items to.old.items to.new.items end)) }
     ensures chain { IfOk result (λ end. IfSome (S.bytes src.old)
         (λ all. GivesChain (file_of all geo.now) first need
-          pages.old.items pages.new.items to.old.items to.new.items end)) }
+        pages.old.items pages.new.items to.old.items to.new.items end)) }
     ensures cause { HasCauseOf faults.Source (S.faults src.old) (S.faults src.new) result }
     ensures kept { KeepsSource S.bytes S.attached S.faults S.reads src.old src.new }
     ensures moves { Moves OVERFLOW_LIST table.old table.new }
     // one read for each page that moved, and one more at an error
     ensures reads { IfSome (S.bytes src.old)
         (λ all. IsWhole all geo.now →
-          S.reads src.new + length (unused table.new)
-            ≤ S.reads src.old + length (unused table.old) + (if is_ok result then 0 else 1)) }
+        S.reads src.new + length (unused table.new)
+        ≤ S.reads src.old + length (unused table.old) + (if is_ok result then 0 else 1)) }
 {
     let mut page = vec![in alloc; 0u8; geo.page_size as usize]?;
     let buffer = page.as_mut_slice();

@@ -31,3 +31,6 @@ pub enum ChainEnd {
         why: Why,
     },
 }
+
+#[cfg(test)]
+mod tests;

@@ -125,10 +125,10 @@ owner-all_moved-other q (p ∷ ps) l t out =
     ]
 
 pub Moves-none : (l : ℕ) (t : Table) → Moves l t t
-Moves-none l t = record { taken = []; were_unused = part_none (unused t); all = refl }
+Moves-none l t = record { taken = []; were_unused = part_none (unused t); all = refl; same_pages = refl; same_lists = refl }
 
 pub Moves-one : (l : ℕ) (t : Table) (p : ℕ) → is_in p (unused t) ≡ true → Moves l t (moved p l t)
-Moves-one l t p there = record { taken = p ∷ []; were_unused = part_one p (unused t) there; all = refl }
+Moves-one l t p there = record { taken = p ∷ []; were_unused = part_one p (unused t) there; all = refl; same_pages = refl; same_lists = length-moved p l t.lists }
 
 -- moves after moves are moves
 pub Moves-append : (l : ℕ) (a b c : Table) → 1 ≤ l → Moves l a b → Moves l b c → Moves l a c
@@ -139,18 +139,17 @@ Moves-append l a b c over first more =
       taken = first.taken ++ more.taken;
       were_unused = part_append (unused a) first.taken more.taken first.were_unused part;
       all = more.all ∙ (ap (λ (t : Table). all_moved more.taken l t) first.all ∙ sym (all_moved-append first.taken more.taken l a));
+      same_pages = more.same_pages ∙ first.same_pages;
+      same_lists = more.same_lists ∙ first.same_lists;
     }
 
 pub Moves-partition : (l : ℕ) (a b : Table) → 1 ≤ l → l < length a.lists → Moves l a b → IsPartition a → IsPartition b
 Moves-partition l a b over below moves each =
     subst IsPartition (sym moves.all) (IsPartition-all_moved moves.taken l a each over below moves.were_unused)
 
--- moves keep the number of pages and that of lists
-pub Moves-pages : (l : ℕ) (a b : Table) → Moves l a b → b.pages ≡ a.pages
-Moves-pages l a b moves = ap (λ (t : Table). t.pages) moves.all ∙ pages-all_moved moves.taken l a
-
-pub Moves-lists : (l : ℕ) (a b : Table) → Moves l a b → length b.lists ≡ length a.lists
-Moves-lists l a b moves = ap (λ (t : Table). length t.lists) moves.all ∙ length-all_moved moves.taken l a
+-- moves of these pages
+pub Moves-all : (ps : List ℕ) (l : ℕ) (t : Table) → IsPartOf ps (unused t) → Moves l t (all_moved ps l t)
+Moves-all ps l t part = record { taken = ps; were_unused = part; all = refl; same_pages = pages-all_moved ps l t; same_lists = length-all_moved ps l t }
 
 -- moves make no page unused
 pub Moves-unused : (l : ℕ) (a b : Table) → 1 ≤ l → Moves l a b → IsPartOf (unused b) (unused a)

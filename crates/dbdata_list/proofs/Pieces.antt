@@ -4,7 +4,7 @@ use Rattle.std.specs.Prelude.{decimal}
 use Rattle.std.proofs.lemmas.List.{drop_more, take-append-drop}
 use Rattle.hex.specs.Hex.{encode_with, encode_lower}
 use Rattle.record_core.specs.declared.values.Value.{Value}
-use Rattle.dbdata_list.specs.Text.{field_line, field_text, fields_text, newline, word_line}
+use Rattle.dbdata_list.specs.Text.{field_line, field_text, fields_text, newline, pointer_line, pointer_lines, word_line}
 
 -- the digits of two lists of bytes are those of the one and then those of the other
 hex-append : (t xs ys : List ℕ) → encode_with t (xs ++ ys) ≡ encode_with t xs ++ encode_with t ys
@@ -26,3 +26,8 @@ pub fields_more : (page cell i : ℕ) (values : List Value) (v : Value) → v �
     fields_text page cell i (drop i values) ≡ field_line page cell (decimal i) v ++ fields_text page cell (i + 1) (drop (i + 1) values)
 fields_more page cell i values v is lt =
     ap (fields_text page cell i) (drop_more values i v lt) ∙ ap (λ w. field_line page cell (decimal i) w ++ fields_text page cell (i + 1) (drop (i + 1) values)) (sym is)
+
+-- the lines from a child on
+pub pointers_more : (page i : ℕ) (children : List ℕ) (d : ℕ) → i < length children →
+    pointer_lines page (drop i children) ≡ pointer_line page (get_or children i d) ++ pointer_lines page (drop (i + 1) children)
+pointers_more page i children d lt = ap (pointer_lines page) (drop_more children i d lt)

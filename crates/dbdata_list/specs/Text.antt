@@ -50,3 +50,12 @@ row_text page cell rowid values = rowid_text page cell rowid ++ fields_text page
 -- the line of a cell that is not read
 unfoldable pub unread_line : ℕ → ℕ → List ℕ → List ℕ
 unread_line page cell cause = place_text page cell ++ (codes "unread " ++ (cause ++ newline))
+
+-- `PAGE CHILD`, the line of a page number that a page names
+unfoldable pub pointer_line : ℕ → ℕ → List ℕ
+pointer_line page child = decimal page ++ (codes " " ++ (decimal child ++ newline))
+
+-- the lines of the page numbers that a page names
+abbrev pub pointer_lines : ℕ → List ℕ → List ℕ
+pointer_lines page [] = []
+pointer_lines page (child ∷ children) = pointer_line page child ++ pointer_lines page children

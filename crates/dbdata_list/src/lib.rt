@@ -1,4 +1,9 @@
-//! The listings: a line for each value or each pointer of a file (docs/TEXTS.md, "Listings").
+//! The listings: a line for each value or each page number that a file holds (docs/TEXTS.md, "Listings").
 #![tactic(auto)]
 
+mod faults;
 mod lines;
+mod pointers;
+
+pub use faults::ListFault;
+pub use pointers::list_pointers;

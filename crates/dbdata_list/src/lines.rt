@@ -5,7 +5,7 @@ ghost use Rattle.arrayvec.specs.ArrayVec.{array_vec_len};
 ghost use Rattle.hex.specs.Hex.{encode_lower};
 ghost use Rattle.page_access.specs.Outside.{Writes, KeepsSink};
 ghost use Rattle.record_core.specs.declared.values.Value.TheVariants.{Null, Whole};
-ghost use Rattle.dbdata_list.specs.Text.{field_line, field_text, fields_text, newline, place_text, row_text, rowid_text, unread_line, word_line};
+ghost use Rattle.dbdata_list.specs.Text.{field_line, pointer_line, field_text, fields_text, newline, place_text, row_text, rowid_text, unread_line, word_line};
 
 use arrayvec::ArrayVec;
 use itoa::Buffer;
@@ -87,6 +87,20 @@ pub(crate) fn put_unread<R: Sink>(
     let mut line = place(page, cell);
     add(&mut line, b"unread ");
     add(&mut line, cause.as_bytes());
+    add(&mut line, b"\n");
+    to.put(line.as_slice())
+}
+
+/// Puts the line of a page number that a page names.
+#[tactic(auto, unfolding(crate::specs::Text::pointer_line))]
+pub(crate) fn put_pointer<R: Sink>(to: &mut R, page: u32, child: u32) -> Result<(), Failed>
+    ensures writes { Writes (R.bytes to.old) (R.bytes to.new) (R.faults to.old) (R.faults to.new) (pointer_line page child) result }
+    ensures kept { KeepsSink R.created R.faults to.old to.new }
+{
+    let mut line = Line::new();
+    add(&mut line, Buffer::new().format(page).as_bytes());
+    add(&mut line, b" ");
+    add(&mut line, Buffer::new().format(child).as_bytes());
     add(&mut line, b"\n");
     to.put(line.as_slice())
 }

@@ -1,8 +1,8 @@
 -- Pieces that are put one behind the other are the text that they make; the tools for every call that writes.
-use Rattle.std.proofs.Common.{◌≡◌, ◌≤◌, ◌∙◌, ℕ, ◌+◌, min, List, [], ◌∷◌, ◌++◌, length, take, Option, Some, None, Result, Ok, Err, IsErr, IsErrOf, sym, ap, subst, refl, arith, append_assoc}
+use Rattle.std.proofs.Common.{◌≡◌, ◌≤◌, ◌∙◌, ℕ, ◌+◌, min, List, [], ◌++◌, length, take, Option, Some, None, Result, Ok, Err, IsErr, IsErrOf, sym, ap, subst, refl, arith, append_assoc}
 use Rattle.std.proofs.Math.Seq.{take-append_seam, take-append-add}
 use Rattle.std.proofs.lemmas.List.{append-nil, take-append-le, take_min}
-use Rattle.page_access.specs.Outside.{Rose, Gains, GainsPrefix, Writes, WritesOf}
+use Rattle.page_access.specs.Outside.{Gains, GainsPrefix, Writes, WritesOf}
 use Rattle.page_access.proofs.Keeps.{Rose-longer}
 
 -- a front of `all` is written, and `rest` is still to come

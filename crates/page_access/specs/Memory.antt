@@ -1,5 +1,5 @@
 -- Sources and sinks in memory (docs/FORMAT.md, "The outside"): what each is seen as.
-use Rattle.std.specs.Prelude.{ℕ, ◌+◌, ◌*◌, ◌-◌, ◌^◌, ◌/◌, ◌%◌, ◌==◌, Bool, true, false, nat_lt, if◌then◌else◌, List, [], ◌∷◌, ◌++◌, length, take, map, find, slice_index, Option, Some, None, unwrap_or, is_some, ◌||◌, Vec}
+use Rattle.std.specs.Prelude.{ℕ, ◌+◌, ◌-◌, ◌^◌, ◌/◌, ◌%◌, ◌==◌, Bool, false, nat_lt, if◌then◌else◌, List, [], length, take, map, find, slice_index, Option, None, unwrap_or, is_some, ◌||◌, Vec}
 use Rattle.std.specs.List.{list_any, range_with_len}
 use Rattle.std.specs.Option.{option_map, option_map_or}
 use Rattle.std.specs.declared.alloc.Global.{Global}

@@ -1,5 +1,5 @@
 -- Pages of a file (docs/FORMAT.md, "Pages"; fileformat2.html, 1.2 and 1.3).
-use Rattle.std.specs.Prelude.{ℕ, ◌+◌, ◌-◌, ◌*◌, ◌==◌, Bool, List, [], ◌∷◌, ◌++◌, length, take, drop, replicate}
+use Rattle.std.specs.Prelude.{ℕ, ◌-◌, ◌*◌, ◌==◌, Bool, List, [], ◌∷◌, ◌++◌, length, take, drop, replicate}
 use Rattle.std.specs.List.{list_any}
 
 -- the eight page sizes, in bytes

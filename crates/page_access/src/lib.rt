@@ -14,3 +14,6 @@ pub use outside::{Failed, ReadFault, Sink, Source};
 pub use sinks::{MemFail, MemSink, SureSink};
 pub use sources::{MemSource, SureSource};
 pub use sparse::SparseSource;
+
+#[cfg(test)]
+mod tests;

@@ -119,23 +119,21 @@ impl Sink for MemSink {
         ensures state { self.new ≡ record (stepped (is_refused self.old piece.now) self.old)
             { bytes = self.old.bytes ++ kept self.old piece.now } }
     {
-        let keep = self.next_call();
-        if self.room - (self.bytes.len() as u64) < piece.len() as u64 {
-            self.faults = counted(self.faults);
-            return Err(Failed);
-        }
-        match keep {
-            None => {
-                self.bytes.extend_from_slice(piece).unwrap();
-                Ok(())
-            }
-            Some(keep) => {
-                let count = piece.len().min(keep as usize);
-                self.bytes.extend_from_slice(&piece[..count]).unwrap();
-                self.faults = counted(self.faults);
-                Err(Failed)
-            }
-        }
+        let named = self.next_call();
+        let space = self.room - self.bytes.len() as u64;
+        let keep = if space < piece.len() as u64 {
+            Some(0)
+        } else {
+            named
+        };
+        let Some(keep) = keep else {
+            self.bytes.extend_from_slice(piece).unwrap();
+            return Ok(());
+        };
+        let count = piece.len().min(keep as usize);
+        self.bytes.extend_from_slice(&piece[..count]).unwrap();
+        self.faults = counted(self.faults);
+        Err(Failed)
     }
 
     fn finish(&mut self) -> Result<(), Failed>

@@ -57,7 +57,8 @@ impl PageTable {
 
     /// The number of pages.
     pub fn pages(&self) -> u32
-        ensures { result ≡ self.now.pages }
+        ensures value { result ≡ self.now.pages }
+        ensures partition { IsPartition self.now }
     {
         self.pages
     }

@@ -2,6 +2,7 @@
 use Rattle.std.specs.Prelude.{◌≡◌, ◌⊎◌, ℕ, ◌+◌, ◌*◌, ℤ, pos, List, [], ◌∷◌, ◌++◌, length}
 use Rattle.byteorder.specs.Endian.{big_number, twos_complement}
 use Rattle.varint_core.specs.Varint.{IsVarint}
+use Rattle.record_core.specs.declared.spans.RecordSpans.{RecordSpans}
 use Rattle.record_core.specs.declared.values.Value.{Value}
 use Rattle.record_core.specs.declared.values.Value.TheVariants.{Null, Whole, Real8, Text, Blob}
 
@@ -55,3 +56,13 @@ pub record IsRecord (bytes : List ℕ) (values : List Value) : Type 0 where
   pub header : IsVarint size (length size + length spelled)
   pub typed : SpellsTypes spelled types
   pub filled : SpellsBodies bodies types values
+
+-- the sizes in bytes that spell a record
+abbrev pub spans_in : {bytes : List ℕ} {values : List Value} → IsRecord bytes values → RecordSpans
+spans_in {values = values} r =
+    let header = length r.size + length r.spelled in
+    record { fields = length values; header = header; used = header + length r.bodies }
+
+-- the sizes are those of a record that the bytes spell
+abbrev pub AreSpans : List ℕ → RecordSpans → Type 0
+AreSpans bytes spans = (values : List Value) × (r : IsRecord bytes values) × (spans ≡ spans_in r)

@@ -10,3 +10,6 @@ pub use faults::RecordFault;
 pub use reading::read_record;
 pub use spans::{RecordSpans, record_spans};
 pub use values::{Bytes, Value};
+
+#[cfg(test)]
+mod tests;

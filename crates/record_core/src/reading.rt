@@ -2,6 +2,7 @@
 
 ghost use Rattle.std.specs.Prelude.{◌≡◌, ◌≤◌, ℕ, List, length, IfOk, IsSomeAnd};
 ghost use Rattle.record_core.specs.Record.{body_len, bodies_len, types_in, value_of, values_of, record_of, Gives};
+ghost use Rattle.record_core.specs.Spelling.{IsRecord};
 
 use crate::faults::RecordFault;
 use crate::spans::{body_len, read_layout};
@@ -11,8 +12,20 @@ use std::alloc::{AllocError, Global};
 use varint_core::read_varint;
 
 /// The values of the record at the front of the payload; bytes may follow them (fileformat2.html, 2.1).
+/// The faults are tested in the order of `RecordFault`, and `Memory` comes only where none of the others holds.
 pub fn read_record(alloc: Global, payload: &[u8]) -> Result<Vec<Value>, RecordFault>
+    // What is answered is spelled by the payload.
+    ensures found { IfOk result (λ v. IsRecord payload.now v.items) }
+    // What the payload spells, with few values, is answered, unless memory runs out.
+    ensures only { (vs : List Value) → IsRecord payload.now vs → length vs ≤ 1996 → Gives (λ v. v.items) result (Ok vs) }
     ensures exact { Gives (λ v. v.items) result (record_of payload.now) }
+{
+    decode(alloc, payload)
+}
+
+// The values of the record, or the first fault.
+fn decode(alloc: Global, payload: &[u8]) -> Result<Vec<Value>, RecordFault>
+    ensures { Gives (λ v. v.items) result (record_of payload.now) }
 {
     let layout = read_layout(payload)?;
     let types = &payload[layout.start..layout.spans.header];

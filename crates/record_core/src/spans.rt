@@ -1,8 +1,10 @@
 //! The header of a record: its serial types, and what they say of the bytes.
 
-ghost use Rattle.std.specs.Prelude.{◌≡◌, ◌≤◌, ◌<◌, ◌+◌, ◌^◌, ◌||◌, length, option_map, IfOk, IfSome};
+ghost use Rattle.std.specs.Prelude.{◌≡◌, ◌≤◌, ◌<◌, ◌+◌, ◌^◌, ◌||◌, List, length, option_map, IfOk, IfSome};
 ghost use Rattle.record_core.specs.Record.{body_len, is_reserved, types_in, spans_of};
 ghost use Rattle.record_core.specs.Tally.{tally_of, more_within, layout_of, HasValues};
+ghost use Rattle.record_core.specs.Spelling.{AreSpans, IsRecord, spans_in};
+ghost use Rattle.record_core.specs.declared.values.Value.{Value};
 
 use crate::faults::RecordFault;
 use varint_core::read_varint;
@@ -39,7 +41,18 @@ const MAX_FIELDS: usize = 1996;
 /// The sizes in the record at the front of the payload, by the rules and faults of `read_record`.
 /// Never `Memory`.
 pub fn record_spans(payload: &[u8]) -> Result<RecordSpans, RecordFault>
+    // What is answered are the sizes of a record that the payload spells.
+    ensures found { IfOk result (λ s. AreSpans payload.now s) }
+    // The sizes of a record with few values are answered.
+    ensures only { (vs : List Value) (r : IsRecord payload.now vs) → length vs ≤ 1996 → result ≡ Ok (spans_in r) }
     ensures exact { result ≡ spans_of payload.now }
+{
+    spans(payload)
+}
+
+// The sizes in the record, or the first fault.
+fn spans(payload: &[u8]) -> Result<RecordSpans, RecordFault>
+    ensures { result ≡ spans_of payload.now }
 {
     let layout = read_layout(payload)?;
     Ok(layout.spans)

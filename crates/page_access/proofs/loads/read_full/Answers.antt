@@ -1,4 +1,4 @@
-use Rattle.std.proofs.Common.{◌≡◌, ◌-◌, length, length-take, length-drop, take, drop, rules, arith}
+use Rattle.std.proofs.Common.{◌≡◌, ◌-◌, length, length-take, length-drop, drop, rules, arith}
 use Rattle.page_access.proofs.Parts.{told_next, told_turn}
 use Rattle.page_access.proofs.loads.read_full.Goals as goal
 

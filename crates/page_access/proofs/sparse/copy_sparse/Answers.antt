@@ -1,4 +1,4 @@
-use Rattle.std.proofs.Common.{◌≡◌, ◌+◌, ◌-◌, length, take, drop, length-take, length-drop, rules, arith}
+use Rattle.std.proofs.Common.{◌≡◌, ◌+◌, ◌-◌, length, drop, length-take, length-drop, rules, arith}
 use Rattle.page_access.proofs.FewPages.{copied_next}
 use Rattle.page_access.proofs.sparse.copy_sparse.Goals as goal
 

@@ -1,4 +1,4 @@
-use Rattle.std.proofs.Common.{◌≡◌, ◌<◌, ◌++◌, ◌∙◌, length, drop, length-append, length-drop, length-take, rules, arith, sym, get_or}
+use Rattle.std.proofs.Common.{◌≡◌, ◌<◌, ◌∙◌, length, drop, length-append, length-drop, length-take, arith}
 use Rattle.std.proofs.Math.ListN.{get_or-append}
 use Rattle.page_access.proofs.FewPages.{sparse_read}
 use Rattle.page_access.proofs.sparse.read_sparse.Goals as goal

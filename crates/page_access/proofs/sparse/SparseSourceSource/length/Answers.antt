@@ -1,4 +1,4 @@
-use Rattle.std.proofs.Common.{◌∙◌, sym, ap, rules, arith}
+use Rattle.std.proofs.Common.{◌∙◌, sym, ap}
 use Rattle.page_access.proofs.FewPages.{length-sparse_bytes}
 use Rattle.page_access.proofs.sparse.SparseSourceSource.length.Goals as goal
 

@@ -1,0 +1,55 @@
+-- Listings page by page, where the source tells its bytes.
+use Rattle.std.proofs.Common.{◌≡◌, ◌∙◌, ap, arith, ℕ, suc, ◌+◌, ◌-◌, ◌<◌, ◌≤◌, List, [], ◌++◌, Option, Some, None, Result, Ok, Err, IsErr, IsErrAnd, IsErrOf, sym, subst, refl}
+use Rattle.std.specs.Prelude.{IfSome}
+use Rattle.page_access.specs.Outside.{WritesOf}
+use Rattle.dbdata_list.specs.Listing.{pages_text}
+use Rattle.page_access.proofs.Gains.{WroteFront, front_as, front_end_of, front_out_from, front_start, front_step_of}
+
+-- of the text that the told bytes give, a front is written and a rest is still to come
+abbrev pub ToldFront : Option (List ℕ) → Option (List ℕ) → Option (List ℕ) → ℕ → ℕ → (List ℕ → List ℕ) → (List ℕ → List ℕ) → Type 0
+ToldFront told old now before count rest all = IfSome told (λ bytes. WroteFront old now before count (rest bytes) (all bytes))
+
+pub told_start : (told old : Option (List ℕ)) (before : ℕ) (rest all : List ℕ → List ℕ) → ((bytes : List ℕ) → all bytes ≡ rest bytes) → ToldFront told old old before before rest all
+told_start None old before rest all same = tt
+told_start (Some bytes) old before rest all same = front_as (same bytes) (front_start old before (all bytes))
+
+-- one more page is listed
+pub told_step : {T E : Type 0} (x : T) (fault : E) (told told' old now new : Option (List ℕ)) (f g h : ℕ) (rest piece next all : List ℕ → List ℕ) →
+    told' ≡ told → ((bytes : List ℕ) → rest bytes ≡ piece bytes ++ next bytes) → ToldFront told old now f g rest all
+    → IfSome told' (λ bytes. WritesOf {T = T} fault now new g h (piece bytes) (Ok x)) → ToldFront told old new f h next all
+told_step x fault None told' old now new f g h rest piece next all same parts w written = tt
+told_step {T = T} x fault (Some bytes) told' old now new f g h rest piece next all same parts w written =
+    let one : WritesOf {T = T} fault now new g h (piece bytes) (Ok x) =
+    subst (λ o. IfSome o (λ b. WritesOf {T = T} fault now new g h (piece b) (Ok x))) same written in
+    front_step_of (next bytes) (front_as (parts bytes) w) one
+
+-- listing a page failed
+pub told_out : (T : Type 0) {E T' E' : Type 0} (e inner : E) (r : Result T' E') (fault : E') (told told' old now new : Option (List ℕ)) (f g h : ℕ) (rest piece next all : List ℕ → List ℕ) →
+    IsErr r → (IsErrOf r fault → e ≡ inner) → told' ≡ told → ((bytes : List ℕ) → rest bytes ≡ piece bytes ++ next bytes) → ToldFront told old now f g rest all
+    → IfSome told' (λ bytes. WritesOf {T = T} inner now new g h (piece bytes) (Err e)) → IfSome told (λ bytes. WritesOf fault old new f h (all bytes) r)
+told_out T e inner r fault None told' old now new f g h rest piece next all is from same parts w written = tt
+told_out T e inner r fault (Some bytes) told' old now new f g h rest piece next all is from same parts w written =
+    let one : WritesOf {T = T} inner now new g h (piece bytes) (Err e) =
+    subst (λ o. IfSome o (λ b. WritesOf {T = T} inner now new g h (piece b) (Err e))) same written in
+    front_out_from fault (next bytes) is from (front_as (parts bytes) w) one
+
+-- all pages are listed
+pub told_end : {T E : Type 0} (x : T) (fault : E) (told old now : Option (List ℕ)) (f g : ℕ) (rest all : List ℕ → List ℕ) →
+    ((bytes : List ℕ) → rest bytes ≡ []) → ToldFront told old now f g rest all → IfSome told (λ bytes. WritesOf {T = T} fault old now f g (all bytes) (Ok x))
+told_end x fault None old now f g rest all none w = tt
+told_end x fault (Some bytes) old now f g rest all none w = front_end_of fault (front_as (none bytes) w)
+
+-- the pages of a listing: from the first one on, from a later one on, and none
+pub pages_all : (text : ℕ → List ℕ) (n : ℕ) → pages_text text n 1 ≡ pages_text text (n - 0) 1
+pages_all text n = let e : n ≡ n - 0 = omega arith in ap (λ m. pages_text text m 1) e
+
+pub pages_more : (text : ℕ → List ℕ) (n i : ℕ) → i < n → pages_text text (n - i) (i + 1) ≡ text (i + 1) ++ pages_text text (n - (i + 1)) (i + 1 + 1)
+pages_more text n i lt = let e : n - i ≡ suc (n - (i + 1)) = omega arith in ap (λ m. pages_text text m (i + 1)) e
+
+pub pages_none : (text : ℕ → List ℕ) (n i p : ℕ) → n ≤ i → pages_text text (n - i) p ≡ []
+pages_none text n i p le = let e : n - i ≡ 0 = omega arith in ap (λ m. pages_text text m p) e
+
+-- an error that `?` passes on as it is
+pub passed_on : {T E : Type 0} (r : Result T E) (e fault : E) → IsErrAnd r (λ x. x ≡ e) → IsErrOf r fault → e ≡ fault
+passed_on (Ok x) e fault h is = absurd h
+passed_on (Err x) e fault h is = let same : x ≡ e = h in cc

@@ -1,11 +1,11 @@
 -- Moves of pages out of list 0, one after another: which pages stay there, and which list has the others.
 use Rattle.std.proofs.Common.{◌≡◌, ◌≢◌, ℕ, zero, suc, ◌+◌, ◌<◌, ◌≤◌, true, false, ◌==◌, nat_le, List, [], ◌∷◌, ◌++◌, length, map, refl, sym, ap, ◌∙◌, subst, inl, inr, arith}
-use Rattle.std.proofs.lemmas.Bool.{false≢true, cases_lt, and_left, and_right, lt-leb, ne_eqb}
+use Rattle.std.proofs.lemmas.Bool.{false≢true, cases_lt, and_from, and_left, and_right, le-leb, lt-leb, ne_eqb}
 use Rattle.std.proofs.lemmas.Bool.Decides.{eqb_tells}
 use Rattle.std.proofs.lemmas.List.{append_assoc, append-nil, length-map, get_or-set_same, get_or-set_other}
 use Rattle.std.specs.List.{concat}
 use Rattle.page_lists.specs.Lists.{IsPartOf, is_in, count, without, minus}
-use Rattle.page_lists.specs.Table.{Table, IsPartition, Moves, list_at, unused, owner, moved_in, moved, all_moved}
+use Rattle.page_lists.specs.Table.{Table, IsPartition, Moves, is_page, list_at, unused, owner, moved_in, moved, all_moved}
 use Rattle.page_lists.proofs.Counts.{in_or_not, in_part, in_head, count_in, not_in_from_count, without_not_in, count-append, count-minus, part_append, part_none, part_one, part_rest}
 use Rattle.page_lists.proofs.Moves.{IsPartition-moved, length-moved, list_at_out, owner-moved-other, stands_once}
 
@@ -54,6 +54,13 @@ unused_page t q each there =
             | inl above ↦ let none : count q (concat t.lists) ≡ 0 = rw (and_right (nat_le 1 q) (nat_le q t.pages) (lt-leb q t.pages above)) at (each q) in absurd (omega (arith, some, none))
             | inr high ↦ (low, high)
           ]
+    ]
+
+pub unused_not_page : (t : Table) (q : ℕ) → IsPartition t → is_page t.pages q ≡ false → is_in q (unused t) ≡ false
+unused_not_page t q each other =
+    elim (in_or_not q (unused t)) [
+      inl w ↦ let page = unused_page t q each w.0 in absurd (false≢true (sym other ∙ and_from (nat_le 1 q) (nat_le q t.pages) (le-leb 1 q page.0) (le-leb q t.pages page.1)))
+    | inr w ↦ w.0
     ]
 
 -- a page is unused exactly where its list is list 0
@@ -118,10 +125,10 @@ owner-all_moved-other q (p ∷ ps) l t out =
     ]
 
 pub Moves-none : (l : ℕ) (t : Table) → Moves l t t
-Moves-none l t = record { taken = []; were_unused = part_none (unused t); all = refl }
+Moves-none l t = record { taken = []; were_unused = part_none (unused t); all = refl; same_pages = refl; same_lists = refl }
 
 pub Moves-one : (l : ℕ) (t : Table) (p : ℕ) → is_in p (unused t) ≡ true → Moves l t (moved p l t)
-Moves-one l t p there = record { taken = p ∷ []; were_unused = part_one p (unused t) there; all = refl }
+Moves-one l t p there = record { taken = p ∷ []; were_unused = part_one p (unused t) there; all = refl; same_pages = refl; same_lists = length-moved p l t.lists }
 
 -- moves after moves are moves
 pub Moves-append : (l : ℕ) (a b c : Table) → 1 ≤ l → Moves l a b → Moves l b c → Moves l a c
@@ -132,18 +139,17 @@ Moves-append l a b c over first more =
       taken = first.taken ++ more.taken;
       were_unused = part_append (unused a) first.taken more.taken first.were_unused part;
       all = more.all ∙ (ap (λ (t : Table). all_moved more.taken l t) first.all ∙ sym (all_moved-append first.taken more.taken l a));
+      same_pages = more.same_pages ∙ first.same_pages;
+      same_lists = more.same_lists ∙ first.same_lists;
     }
 
 pub Moves-partition : (l : ℕ) (a b : Table) → 1 ≤ l → l < length a.lists → Moves l a b → IsPartition a → IsPartition b
 Moves-partition l a b over below moves each =
     subst IsPartition (sym moves.all) (IsPartition-all_moved moves.taken l a each over below moves.were_unused)
 
--- moves keep the number of pages and that of lists
-pub Moves-pages : (l : ℕ) (a b : Table) → Moves l a b → b.pages ≡ a.pages
-Moves-pages l a b moves = ap (λ (t : Table). t.pages) moves.all ∙ pages-all_moved moves.taken l a
-
-pub Moves-lists : (l : ℕ) (a b : Table) → Moves l a b → length b.lists ≡ length a.lists
-Moves-lists l a b moves = ap (λ (t : Table). length t.lists) moves.all ∙ length-all_moved moves.taken l a
+-- moves of these pages
+pub Moves-all : (ps : List ℕ) (l : ℕ) (t : Table) → IsPartOf ps (unused t) → Moves l t (all_moved ps l t)
+Moves-all ps l t part = record { taken = ps; were_unused = part; all = refl; same_pages = pages-all_moved ps l t; same_lists = length-all_moved ps l t }
 
 -- moves make no page unused
 pub Moves-unused : (l : ℕ) (a b : Table) → 1 ≤ l → Moves l a b → IsPartOf (unused b) (unused a)

@@ -1,5 +1,5 @@
 -- A table of page lists, which hold each page once (docs/ARCHITECTURE.md, "Page lists").
-use Rattle.std.specs.Prelude.{◌≡◌, ℕ, suc, nat_le, Bool, ◌&&◌, if◌then◌else◌, List, [], ◌∷◌, ◌++◌, map, slice_set, slice_index_or, replicate}
+use Rattle.std.specs.Prelude.{◌≡◌, ℕ, suc, nat_le, Bool, ◌&&◌, if◌then◌else◌, List, [], ◌∷◌, ◌++◌, length, map, slice_set, slice_index_or, replicate}
 use Rattle.std.specs.List.{concat, range_with_len}
 use Rattle.page_lists.specs.Lists.{IsPartOf, is_in, count, without}
 
@@ -51,3 +51,5 @@ pub record Moves (l : ℕ) (old new : Table) : Type 0 where
   pub taken : List ℕ
   pub were_unused : IsPartOf taken (unused old)
   pub all : new ≡ all_moved taken l old
+  pub same_pages : new.pages ≡ old.pages
+  pub same_lists : length new.lists ≡ length old.lists

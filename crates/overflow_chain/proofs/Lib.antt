@@ -1,0 +1,3 @@
+pub mod Turns
+pub mod Longest
+pub mod Reading

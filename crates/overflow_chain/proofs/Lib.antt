@@ -1,3 +1,4 @@
 pub mod Turns
 pub mod Longest
 pub mod Reading
+pub mod Taking

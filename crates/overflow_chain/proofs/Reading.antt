@@ -19,6 +19,7 @@ use Rattle.overflow_chain.specs.declared.Why.{Why}
 use Rattle.overflow_chain.specs.declared.Why.TheVariants.{Range}
 use Rattle.overflow_chain.specs.declared.TheConstants.{OVERFLOW_LIST}
 use Rattle.overflow_chain.proofs.Turns.{Turning, turning_start, turning_more, turning_done, turning_broken}
+use Rattle.overflow_chain.proofs.Taking.{Taking, taking_start, taking_more}
 use Rattle.overflow_chain.proofs.Longest.{whole_turn_is_chain}
 
 -- a number that is no page's is not unused
@@ -52,6 +53,7 @@ pub record Reading {S : Type 0} (bytes attached : S → Option (List ℕ)) (faul
   pub moves : Moves OVERFLOW_LIST t t'
   pub paid : IfSome (bytes src) (λ all. Paid reads geo src src' t t' all)
   pub so_far : IfSome (bytes src) (λ all. Turning (file_of all geo) q need t t' pages pages' to to' missing at)
+  pub taking : Taking need t t' pages pages' to to' missing
 
 pub reading_start : {S : Type 0} (bytes attached : S → Option (List ℕ)) (faults reads : S → ℕ) (geo : Geometry) (q need : ℕ) (src : S) (t : Table) (pages to : List ℕ)
     → IsPartition t → t.pages ≡ geo.pages → 7 ≤ length t.lists → Reading bytes attached faults reads geo q need src src t t pages pages to to need q
@@ -63,6 +65,7 @@ reading_start bytes attached faults reads geo q need src t pages to each same li
   moves = Moves-none OVERFLOW_LIST t;
   paid = always (λ all. Paid reads geo src src t t all) (bytes src) (λ all whole. omega arith);
   so_far = always (λ all. Turning (file_of all geo) q need t t pages pages to to need q) (bytes src) (λ all. turning_start (file_of all geo) q need t pages to);
+  taking = taking_start need t pages to;
 }
 
 -- what the tables of the loop are
@@ -113,6 +116,7 @@ reading_more {bytes = bytes} {reads = reads} {geo = geo} {q} {need} {src} {src'}
           (λ all. Turning (file_of all geo) q need t t'' pages pages'' to to'' (missing - (geo.usable - 4)) (big_number 4 buffer)) (bytes src) (bytes src') r.kept.told
           (λ all before is. turning_more (file_of all geo) q need t t' t'' pages pages' pages'' to to' to'' buffer missing at geo.usable_least geo.usable_most some there is pushed put moves before)
           r.so_far read);
+      taking = taking_more need t t' t'' pages pages' pages'' to to' to'' buffer missing missing' at geo.usable r.taking there page.0 (omega (arith, page.1, r.same_pages)) pushed put moves less;
     }
 
 -- nothing is missing

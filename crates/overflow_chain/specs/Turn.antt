@@ -1,5 +1,6 @@
 -- The turn of a payload: which unused pages its overflow chain takes (docs/ARCHITECTURE.md, "Order of use").
-use Rattle.std.specs.Prelude.{◌≡◌, ℕ, zero, suc, ◌<◌, Bool, true, false, if◌then◌else◌, List, [], ◌∷◌, ◌++◌, length, take}
+use Rattle.std.specs.Prelude.{◌≡◌, ℕ, zero, suc, ◌<◌, ◌≤◌, ◌+◌, Bool, true, false, if◌then◌else◌, List, [], ◌∷◌, ◌++◌, length, take}
+use Rattle.std.specs.List.{AllByRecursion}
 use Rattle.page_access.specs.Pages.{File}
 use Rattle.page_lists.specs.Lists.{IsPartOf, is_in, without, minus}
 use Rattle.page_lists.specs.Table.{Table, is_page, unused, all_moved}
@@ -49,3 +50,12 @@ abbrev pub GivesChain : File → ℕ → ℕ → List ℕ → List ℕ → List 
 GivesChain f q need pages pages' to to' Whole =
     (taken gained : List ℕ) × (pages' ≡ pages ++ taken) × (to' ≡ to ++ gained) × IsChain f q need taken gained
 GivesChain f q need pages pages' to to' (Broken at why) = Unit {0}
+
+-- some unused pages of the file were taken: they are appended and have their use, and at most `need` bytes came
+pub record Takes (need : ℕ) (old new : Table) (pages pages' to to' : List ℕ) : Type 0 where
+  pub taken : List ℕ
+  pub were_unused : IsPartOf taken (unused old)
+  pub inside : AllByRecursion (λ p. (1 ≤ p) × (p ≤ old.pages)) taken
+  pub pages_are : pages' ≡ pages ++ taken
+  pub table_is : new ≡ all_moved taken OVERFLOW_LIST old
+  pub room : length to' ≤ length to + need

@@ -7,7 +7,7 @@ ghost use Rattle.page_access.specs.Pages.{page_of};
 ghost use Rattle.page_access.specs.declared.outside.ReadFault.TheVariants as faults;
 ghost use Rattle.page_lists.specs.Lists.{is_in};
 ghost use Rattle.page_lists.specs.Table.{IsPartition, Moves, moved, unused};
-ghost use Rattle.overflow_chain.specs.Turn.{GivesChain, Turned, why_not};
+ghost use Rattle.overflow_chain.specs.Turn.{GivesChain, Takes, Turned, why_not};
 
 use crate::{ChainEnd, OVERFLOW_LIST, Why};
 use byteorder::{BigEndian, ByteOrder};
@@ -38,6 +38,8 @@ pub fn read_chain<S: Source>(
     ensures chain { IfOk result (λ end. IfSome (S.bytes src.old)
         (λ all. GivesChain (file_of all geo.now) first need
         pages.old.items pages.new.items to.old.items to.new.items end)) }
+    ensures taken { OnOk result (Takes need table.old table.new
+        pages.old.items pages.new.items to.old.items to.new.items) }
     ensures cause { HasCauseOf faults.Source (S.faults src.old) (S.faults src.new) result }
     ensures kept { KeepsSource S.bytes S.attached S.faults S.reads src.old src.new }
     ensures moves { Moves OVERFLOW_LIST table.old table.new }

@@ -1,1 +1,4 @@
+pub mod Going
 pub mod Names
+pub mod Small
+pub mod Sorting

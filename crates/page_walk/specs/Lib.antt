@@ -1,2 +1,6 @@
+pub mod Bounds
+pub mod Cells
 pub mod Page
 pub mod Pointers
+pub mod Rows
+pub mod Turns

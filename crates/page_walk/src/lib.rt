@@ -3,9 +3,17 @@
 #![tactic(auto)]
 
 mod causes;
+mod cells;
+mod entries;
 mod named;
+mod outcomes;
 mod pages;
+mod pushes;
+mod rows;
 mod screens;
 
 pub use causes::CellCause;
+pub use cells::cells_of;
 pub use named::pointers;
+pub use outcomes::{CellOutcome, Place, TakenCell};
+pub use rows::{PageNotes, read_cells};

@@ -1,5 +1,6 @@
 use Rattle.std.proofs.Common.{◌≡◌, ℕ, ◌-◌, ◌≤◌, ◌∙◌, sym, ap, arith}
 use Rattle.overflow_chain.proofs.Reading.{reading_start, reading_partition, reading_pages, reading_lists, reading_page, reading_more, reading_done, reading_chain, reading_broken, paid_err}
+use Rattle.overflow_chain.proofs.Taking.{taking_done}
 use Rattle.overflow_chain.proofs.chains.read_chain.Goals as goal
 
 pub loop-missing-init : goal.loop-missing-init
@@ -45,3 +46,9 @@ returns-clause-value g c = reading_done c.loop-missing.invariant (omega arith)
 
 pub returns-clause-chain : goal.returns-clause-chain
 returns-clause-chain g c = reading_chain c.loop-missing.invariant (omega arith)
+
+pub returns-in-Some-clause-taken : goal.returns-in-Some-clause-taken
+returns-in-Some-clause-taken g c = taking_done _ _ _ _ _ _ _ _ c.loop-missing.invariant.taking
+
+pub returns-clause-taken : goal.returns-clause-taken
+returns-clause-taken g c = taking_done _ _ _ _ _ _ _ _ c.loop-missing.invariant.taking

@@ -1,0 +1,25 @@
+use Rattle.page_walk.proofs.Going.{going_start, going_more, going_value, going_used, going_adds, going_pages, going_lists, going_moves, going_reads}
+use Rattle.page_walk.proofs.cells.add_cells.Goals as goal
+
+pub loop-i-init : goal.loop-i-init
+loop-i-init g c = going_start _ _ _ _ _ _ _ _ _ _ _ _ c.in_ok-accepted.ensures
+
+pub take_cell-requires-clause-same_pages : goal.take_cell-requires-clause-same_pages
+take_cell-requires-clause-same_pages g c = going_pages c.loop-i.invariant c.requires.same_pages
+
+pub take_cell-requires-clause-lists : goal.take_cell-requires-clause-lists
+take_cell-requires-clause-lists g c = going_lists c.loop-i.invariant c.requires.lists
+
+pub returns-in_err-outcome-clause-moves : goal.returns-in_err-outcome-clause-moves
+returns-in_err-outcome-clause-moves g c = going_moves c.take_cell.new.table c.loop-i.invariant c.take_cell.ensures.moves
+
+pub returns-in_err-push_some-clause-moves : goal.returns-in_err-push_some-clause-moves
+returns-in_err-push_some-clause-moves g c = going_moves c.take_cell.new.table c.loop-i.invariant c.take_cell.ensures.moves
+
+pub loop-i-preserved : goal.loop-i-preserved
+loop-i-preserved g c =
+    going_more c.take_cell.new.src c.take_cell.new.table c.push_some.new.to.items c.screen-cell.new.accepted
+        c.screen-cell.result c.in_ok-outcome.outcome c.loop-i.invariant c.loop-i-test.true c.screen-cell.ensures.verdict
+        c.screen-cell.ensures.marked c.screen-cell.ensures.len c.in_ok-outcome.ensures.value c.in_ok-outcome.ensures.moved
+        c.in_ok-outcome.ensures.small c.take_cell.ensures.kept c.take_cell.ensures.moves c.in_ok-outcome.ensures.reads
+        c.in_ok-push_some.ensures.items

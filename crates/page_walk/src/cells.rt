@@ -1,0 +1,92 @@
+//! The cells of a page, at their turns.
+use cell_reader::{Accepted, PageShape, shape};
+use page_access::{Geometry, ReadFault, Source};
+use page_lists::PageTable;
+use std::alloc::Global;
+
+use crate::entries::take_cell;
+use crate::outcomes::{CellOutcome, Place};
+use crate::pages::load_page;
+use crate::pushes::push_some;
+use crate::screens::screen;
+
+ghost use Rattle.std.specs.Prelude.{◌≡◌, ◌≤◌, ◌+◌, ◌++◌, length, map, IfSome, OnOk, Some, is_ok, if◌then◌else◌};
+ghost use Rattle.page_access.specs.Files.{file_of};
+ghost use Rattle.page_access.specs.Outside.{HasCauseOf, KeepsSource};
+ghost use Rattle.page_access.specs.declared.outside.ReadFault.TheVariants as faults;
+ghost use Rattle.page_lists.specs.Table.{Moves, unused};
+ghost use Rattle.cell_reader.specs.Inside.{HasArray};
+ghost use Rattle.cell_reader.specs.Shape.{shape_at};
+ghost use Rattle.page_walk.specs.Bounds.{Adds, Uses};
+ghost use Rattle.page_walk.specs.Cells.{outcome_of, outcomes_in, outcomes_on};
+ghost use Rattle.page_walk.specs.Turns.{ReadsEach};
+
+// Appends what becomes of each cell of a page with this shape, in cell order.
+fn add_cells<S: Source>(
+    alloc: Global,
+    src: &mut S,
+    geo: &Geometry,
+    table: &mut PageTable,
+    bytes: &[u8],
+    shape: &PageShape,
+    page: u32,
+    to: &mut Vec<CellOutcome>,
+) -> Result<(), ReadFault>
+    requires same_pages { table.old.pages ≡ geo.now.pages }
+    requires lists { 7 ≤ length table.old.lists }
+    requires whole { geo.now.usable ≤ length bytes.now }
+    requires of_page { shape_at bytes.now shape.now.head geo.now.usable ≡ Some shape.now }
+    requires array { HasArray geo.now.usable shape.now }
+    ensures value { OnOk result (IfSome (S.bytes src.old)
+        (λ all. map outcome_of to.new.items ≡ map outcome_of to.old.items
+          ++ outcomes_in (file_of all geo.now) bytes.now page shape.now (unused table.old))) }
+    ensures used { OnOk result (Uses table.old table.new to.old.items to.new.items) }
+    ensures cause { HasCauseOf faults.Source (S.faults src.old) (S.faults src.new) result }
+    ensures kept { KeepsSource S.bytes S.attached S.faults S.reads src.old src.new }
+    ensures moves { Moves 4 table.old table.new }
+    ensures adds { Adds geo.now.usable geo.now.pages page to.old.items to.new.items }
+    ensures reads { ReadsEach (S.bytes src.old) geo.now table.old table.new
+        (S.reads src.old) (S.reads src.new) (if is_ok result then 0 else 1) }
+{
+    let mut accepted = Accepted::new(alloc, geo.usable)?;
+    for i in 0..shape.cells {
+        let cell = screen(bytes, shape, geo, i, &mut accepted);
+        let place = Place { page, cell: i };
+        let outcome = take_cell(alloc, src, geo, table, bytes, shape, place, cell)?;
+        push_some(to, outcome)?;
+    }
+    Ok(())
+}
+
+/// Appends what becomes of each cell of the page, in cell order: no item for an accepted cell of an
+/// interior table page, and none for a page without a shape. The overflow pages that the cells take
+/// move to the list of overflow pages. After an error some cells may be there and some pages have moved.
+pub fn cells_of<S: Source>(
+    alloc: Global,
+    src: &mut S,
+    geo: &Geometry,
+    table: &mut PageTable,
+    page: u32,
+    to: &mut Vec<CellOutcome>,
+) -> Result<(), ReadFault>
+    requires page_least { 1 ≤ page }
+    requires page_most { page ≤ geo.now.pages }
+    requires same_pages { table.old.pages ≡ geo.now.pages }
+    requires lists { 7 ≤ length table.old.lists }
+    ensures value { OnOk result (IfSome (S.bytes src.old)
+        (λ all. map outcome_of to.new.items ≡ map outcome_of to.old.items
+          ++ outcomes_on (file_of all geo.now) page (unused table.old))) }
+    ensures used { OnOk result (Uses table.old table.new to.old.items to.new.items) }
+    ensures cause { HasCauseOf faults.Source (S.faults src.old) (S.faults src.new) result }
+    ensures kept { KeepsSource S.bytes S.attached S.faults S.reads src.old src.new }
+    ensures moves { Moves 4 table.old table.new }
+    ensures adds { Adds geo.now.usable geo.now.pages page to.old.items to.new.items }
+    ensures reads { ReadsEach (S.bytes src.old) geo.now table.old table.new
+        (S.reads src.old) (S.reads src.new) (if is_ok result then 1 else 2) }
+{
+    let bytes = load_page(alloc, src, geo, page)?;
+    let Some(shape) = shape(&bytes, page, geo) else {
+        return Ok(());
+    };
+    add_cells(alloc, src, geo, table, &bytes, &shape, page, to)
+}

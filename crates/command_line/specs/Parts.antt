@@ -1,9 +1,10 @@
 -- What a command asks for (docs/TEXTS.md, "Command line").
-use Rattle.std.specs.Prelude.{ℕ, ◌-◌, nat_le, Bool, true, if◌then◌else◌, List, [], ◌∷◌, codes, Option, Some, None, option_and_then, option_map}
+use Rattle.std.specs.Prelude.{ℕ, ◌+◌, ◌-◌, ◌≤◌, IfSome, IsTrue, nat_le, Bool, true, if◌then◌else◌, List, [], ◌∷◌, codes, Option, Some, None, option_and_then, option_map}
 use Rattle.std.specs.Str.{bytes_eq}
+use Rattle.page_access.specs.Pages.{is_page_size}
 use Rattle.command_line.specs.Numbers.{page_size_of, reserved_of}
 use Rattle.command_line.specs.declared.request.Mode.{Mode}
-use Rattle.command_line.specs.declared.request.Mode.TheVariants.{Dbdata}
+use Rattle.command_line.specs.declared.request.Mode.TheVariants.{Dbdata, Dbptr}
 
 -- a word, as its bytes
 abbrev pub Word : Type 0
@@ -20,7 +21,9 @@ pub record Asked : Type 0 where
 
 -- the mode that a word names
 unfoldable pub mode_of : Word → Option Mode
-mode_of word = if bytes_eq word (codes "dbdata") then Some Dbdata else None
+mode_of word =
+    if bytes_eq word (codes "dbdata") then Some Dbdata
+    else (if bytes_eq word (codes "dbptr") then Some Dbptr else None)
 
 -- the one further word
 abbrev pub only_word : Option (List Word) → Option Word
@@ -43,3 +46,8 @@ asked_of mode words page_size reserved =
     option_and_then (λ m. option_and_then (λ input. option_and_then (λ size. option_and_then (λ r.
     if leaves_enough size r then Some (record { mode = m; input = input; page_size = size; reserved = r }) else None)
     (read_option reserved_of reserved)) (read_option page_size_of page_size)) (only_word words)) (option_and_then mode_of mode)
+
+-- the options' values are such as the rules allow
+pub record HasOptions (page_size reserved : Option ℕ) : Type 0 where
+  pub size_is : IfSome page_size (λ s. IsTrue (is_page_size s))
+  pub enough : IfSome page_size (λ s. IfSome reserved (λ r. r + 480 ≤ s))

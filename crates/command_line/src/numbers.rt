@@ -1,14 +1,16 @@
 //! Values of options.
-ghost use Rattle.std.specs.Prelude.{◌≡◌, ◌^◌, nat_lt};
+ghost use Rattle.std.specs.Prelude.{◌≡◌, ◌^◌, nat_lt, IfSome, IsTrue};
 ghost use Rattle.std.specs.List.{list_all};
 ghost use Rattle.std.specs.Char.{is_ascii_digit};
+ghost use Rattle.page_access.specs.Pages.{is_page_size};
 ghost use Rattle.command_line.specs.Numbers.{has_leading_zero, number_of, page_size_of, reserved_of, where_true};
 
 const PAGE_SIZES: [u32; 8] = [512, 1024, 2048, 4096, 8192, 16384, 32768, 65536];
 
 /// The page size in bytes that the text writes.
 pub(crate) fn page_size_in(text: &str) -> Option<u32>
-    ensures { result ≡ page_size_of text.now }
+    ensures value { result ≡ page_size_of text.now }
+    ensures valid { IfSome result (λ s. IsTrue (is_page_size s)) }
 {
     let size = number_in(text)?;
     if PAGE_SIZES.contains(&size) {

@@ -5,6 +5,8 @@
 pub enum Mode {
     /// Lists every value.
     Dbdata,
+    /// Lists every page number that a page names.
+    Dbptr,
 }
 
 /// A command: a mode, its input and its options.

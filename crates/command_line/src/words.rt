@@ -1,8 +1,9 @@
 //! Reading the words.
-ghost use Rattle.std.specs.Prelude.{◌≡◌, ◌≢◌, ◌↔◌, None, Some, IfOk, IsErrOf, map, option_map, string_bytes};
+ghost use Rattle.std.specs.Prelude.{◌≡◌, ◌≢◌, ◌≤◌, ◌+◌, ◌↔◌, None, Some, IfOk, IfSome, IsErrOf, IsTrue, map, option_map, string_bytes};
+ghost use Rattle.page_access.specs.Pages.{is_page_size};
 ghost use Rattle.clap.specs.Words.{app_of, found_of, rows_of, kind_of};
 ghost use Rattle.command_line.specs.Command.{app, asked_in, command_of, view};
-ghost use Rattle.command_line.specs.Parts.{asked_of, leaves_enough, mode_of, read_option};
+ghost use Rattle.command_line.specs.Parts.{HasOptions, asked_of, leaves_enough, mode_of, read_option};
 ghost use Rattle.command_line.specs.Numbers.{page_size_of, reserved_of};
 
 use crate::numbers::{page_size_in, reserved_in};
@@ -23,6 +24,7 @@ pub enum WordsFault {
 /// The words of a command line behind the program's name, read as a command.
 pub fn read_words<'a>(alloc: Global, words: &'a [String]) -> Result<Request<'a>, WordsFault>
     ensures found { IfOk result (λ r. command_of (map string_bytes words.entry.now) ≡ Some (view r)) }
+    ensures options { IfOk result (λ r. HasOptions r.page_size r.reserved) }
     ensures usage { IsErrOf result WordsFault.Usage → command_of (map string_bytes words.entry.now) ≡ None }
 {
     let Ok(command) = command_line(alloc) else {
@@ -67,7 +69,8 @@ fn command_line<'a>(alloc: Global) -> Result<Command<'a>, AllocError>
 // What the matches ask for.
 #[tactic(auto, unfolding(crate::specs::Command::asked_in))]
 fn asked_in<'a>(matches: &ArgMatches<'a>) -> Option<Request<'a>>
-    ensures { option_map view result ≡ asked_in (rows_of (found_of matches.now)) }
+    ensures options { IfSome result (λ r. HasOptions r.page_size r.reserved) }
+    ensures value { option_map view result ≡ asked_in (rows_of (found_of matches.now)) }
 {
     let words = matches.get_strs("WORD");
     let page_size = matches.get_str("page-size");
@@ -83,7 +86,8 @@ fn asked_of<'a>(
     page_size: Option<&str>,
     reserved: Option<&str>,
 ) -> Option<Request<'a>>
-    ensures { option_map view result ≡ asked_of (option_map (λ w. w.now) mode.entry) (option_map (λ s. map (λ w. w.now) s.now) words.entry)
+    ensures options { IfSome result (λ r. HasOptions r.page_size r.reserved) }
+    ensures value { option_map view result ≡ asked_of (option_map (λ w. w.now) mode.entry) (option_map (λ s. map (λ w. w.now) s.now) words.entry)
         (option_map (λ w. w.now) page_size.entry) (option_map (λ w. w.now) reserved.entry) }
 {
     let mode = mode_in(mode?)?;
@@ -105,7 +109,8 @@ fn asked_of<'a>(
 
 // The value of `--page-size`, where the option is given.
 fn page_size_option(text: Option<&str>) -> Option<Option<u32>>
-    ensures { result ≡ read_option page_size_of (option_map (λ w. w.now) text.entry) }
+    ensures value { result ≡ read_option page_size_of (option_map (λ w. w.now) text.entry) }
+    ensures valid { IfSome result (λ o. IfSome o (λ s. IsTrue (is_page_size s))) }
 {
     match text {
         Some(text) => Some(Some(page_size_in(text)?)),
@@ -125,7 +130,8 @@ fn reserved_option(text: Option<&str>) -> Option<Option<u8>>
 
 // Where both are given, at least 480 bytes are left.
 fn leaves_enough(page_size: Option<u32>, reserved: Option<u8>) -> bool
-    ensures { result ≡ leaves_enough page_size reserved }
+    ensures value { result ≡ leaves_enough page_size reserved }
+    ensures enough { IsTrue result → IfSome page_size (λ s. IfSome reserved (λ r. r + 480 ≤ s)) }
 {
     match (page_size, reserved) {
         (Some(size), Some(reserved)) => size >= 480 + u32::from(reserved),
@@ -139,6 +145,7 @@ fn mode_in(word: &str) -> Option<Mode>
 {
     match word {
         "dbdata" => Some(Mode::Dbdata),
+        "dbptr" => Some(Mode::Dbptr),
         _ => None,
     }
 }

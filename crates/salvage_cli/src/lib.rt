@@ -2,5 +2,11 @@
 #![tactic(auto)]
 
 mod adapters;
+mod faults;
+mod inputs;
+mod lines;
+mod listings;
+mod runs;
 
 pub use adapters::{FileSource, NoSink, StreamSink};
+pub use faults::Fault;

@@ -4,13 +4,13 @@ use Rattle.command_line.specs.Command.{asked_in}
 use Rattle.command_line.proofs.Asked.{first_by_row, all_by_row}
 use Rattle.command_line.proofs.words.asked_in.Goals as goal
 
-pub returns : goal.returns
+pub returns-clause-value : goal.returns-clause-value
 unfolding asked_in
-returns c =
+returns-clause-value c =
     let f = found_of c.args.matches.now in
     rw (
       first_by_row f (codes "MODE") ∙ sym c.get_str.ensures,
       all_by_row f (codes "WORD") ∙ sym c.get_strs-words.ensures,
       first_by_row f (codes "page-size") ∙ sym c.get_str-page_size.ensures,
       first_by_row f (codes "reserved") ∙ sym c.get_str-reserved.ensures,
-    ) c.asked_of.ensures
+    ) c.asked_of.ensures.value

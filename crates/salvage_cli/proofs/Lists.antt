@@ -1,0 +1,35 @@
+-- What a command leaves in the report, exit by exit.
+use Rattle.std.proofs.Common.{◌≡◌, ◌∙◌, ℕ, List, [], ◌++◌, length, take, Option, Some, None, Result, Ok, Err, IsErr, IsErrAnd, OnOk, sym, subst, ap, refl}
+use Rattle.std.specs.Prelude.{IfErr, IfSome, option_map}
+use Rattle.std.proofs.Math.Seq.{take-length}
+use Rattle.command_line.specs.Parts.{Asked}
+use Rattle.command_line.specs.declared.request.Mode.{Mode}
+use Rattle.page_access.specs.Files.{file_of}
+use Rattle.page_access.specs.Outside.{Gains, GainsPrefix, WritesOf}
+use Rattle.page_access.proofs.Gains.{Gains-nothing}
+use Rattle.page_access.specs.declared.outside.ReadFault.{ReadFault}
+use Rattle.page_access.specs.declared.outside.ReadFault.TheVariants as read
+use Rattle.page_size.specs.Rule.{Finding, finding}
+use Rattle.page_size.specs.declared.finds.Found.{Found}
+use Rattle.salvage_cli.specs.Answers.{of_read}
+use Rattle.salvage_cli.specs.Run.{EndsWanted, GivesWanted, IsLate, text_of}
+use Rattle.salvage_cli.specs.Wanted.{FindsPages, IsOfInput, listing_of, pages_of, wanted, wanted_by}
+use Rattle.salvage_cli.specs.declared.faults.Fault.{Fault}
+use Rattle.salvage_cli.specs.declared.faults.Fault.TheVariants.{Usage, InputFault, TooLarge, NoPageSize, NoWholePage, ReportFault, Memory}
+
+-- a text is whole, and the report is finished or not
+finished_text : {A : Type 0} (old new : Option (List ℕ)) (text : List ℕ) (r : Result A Fault) → Gains old new text → IfErr r (λ fault. fault ≡ ReportFault)
+    → GivesWanted (Ok text) old new r
+finished_text old new text (Ok x) gained is = gained
+finished_text {A = A} old new text (Err fault) gained is =
+    let same : fault ≡ ReportFault = is in
+    subst (λ (e : Fault). EndsWanted (Ok text) old new e) (sym same) (length text, subst (λ (t : List ℕ). Gains old new t) (sym (take-length text)) gained)
+
+-- a listing is whole, and the report is finished or not
+pub finished : {A B : Type 0} (told told' old mid new : Option (List ℕ)) (f g : ℕ) (text : List ℕ → List ℕ) (x : B) (r : Result A Fault)
+    → told' ≡ told → IfSome told (λ all. WritesOf {T = B} ReportFault old mid f g (text all) (Ok x)) → new ≡ mid → IfErr r (λ fault. fault ≡ ReportFault)
+    → IfSome told' (λ all. GivesWanted (Ok (text all)) old new r)
+finished None told' old mid new f g text x r same w e is = subst (λ (o : Option (List ℕ)). IfSome o (λ all. GivesWanted (Ok (text all)) old new r)) (sym same) tt
+finished (Some all) told' old mid new f g text x r same w e is =
+    subst (λ (o : Option (List ℕ)). IfSome o (λ b. GivesWanted (Ok (text b)) old new r)) (sym same)
+    (finished_text old new (text all) r (subst (λ (n : Option (List ℕ)). Gains old n (text all)) (sym e) w.ok) is)

@@ -1,0 +1,68 @@
+-- Statuses and their lines (docs/TEXTS.md, "Statuses").
+use Rattle.std.specs.Prelude.{ℕ, List, [], ◌∷◌, ◌++◌, codes, decimal, Result, Ok, Err}
+use Rattle.command_line.specs.declared.words.WordsFault.{WordsFault}
+use Rattle.command_line.specs.declared.words.WordsFault.TheVariants as words
+use Rattle.dbdata_list.specs.declared.faults.ListFault.{ListFault}
+use Rattle.dbdata_list.specs.declared.faults.ListFault.TheVariants as list
+use Rattle.page_access.specs.declared.outside.ReadFault.{ReadFault}
+use Rattle.page_access.specs.declared.outside.ReadFault.TheVariants as read
+use Rattle.page_size.specs.declared.finds.GeoFault.{GeoFault}
+use Rattle.page_size.specs.declared.finds.GeoFault.TheVariants as geo
+use Rattle.salvage_cli.specs.declared.faults.Fault.{Fault}
+use Rattle.salvage_cli.specs.declared.faults.Fault.TheVariants.{Usage, InputFault, TooLarge, NoPageSize, NoWholePage, ReportFault, Memory}
+
+-- the refusal where the words are not read
+abbrev pub of_words : WordsFault → Fault
+of_words words.Usage = Usage
+of_words words.Memory = Memory
+
+-- the refusal where the input is not read
+abbrev pub of_read : ReadFault → Fault
+of_read read.Source = InputFault
+of_read read.Memory = Memory
+
+-- the refusal where the pages are not found
+abbrev pub of_geo : GeoFault → Fault
+of_geo geo.NoPageSize = NoPageSize
+of_geo (geo.NoWholePage len size) = NoWholePage len size
+of_geo geo.Source = InputFault
+of_geo geo.Memory = Memory
+
+-- the refusal where a listing ends early
+abbrev pub of_list : ListFault → Fault
+of_list list.Source = InputFault
+of_list list.Sink = ReportFault
+of_list list.Memory = Memory
+
+-- the status of a refusal
+abbrev pub fault_status : Fault → ℕ
+fault_status Usage = 2
+fault_status InputFault = 3
+fault_status (TooLarge len) = 5
+fault_status NoPageSize = 4
+fault_status (NoWholePage len size) = 4
+fault_status ReportFault = 9
+fault_status Memory = 11
+
+-- the status of an answer
+abbrev pub status_of : {A : Type 0} → Result A Fault → ℕ
+status_of (Ok done) = 0
+status_of (Err fault) = fault_status fault
+
+-- what a refusal says
+unfoldable pub fault_text : Fault → List ℕ
+fault_text Usage = codes "use: recover INPUT OUTPUT SCRIPT, dbdata INPUT, dbptr INPUT, schema INPUT, trial N"
+fault_text InputFault = codes "input fault"
+fault_text (TooLarge len) = codes "input too large: " ++ (decimal len ++ codes " bytes")
+fault_text NoPageSize = codes "no page size found"
+fault_text (NoWholePage len size) = codes "no whole page: " ++ (decimal len ++ (codes " bytes, page size " ++ decimal size))
+fault_text ReportFault = codes "report fault"
+fault_text Memory = codes "out of memory"
+
+-- the end of a line
+abbrev pub newline : List ℕ
+newline = 10 ∷ []
+
+-- the line of a refusal
+unfoldable pub fault_line : Fault → List ℕ
+fault_line fault = codes "db_salvage: " ++ (fault_text fault ++ newline)

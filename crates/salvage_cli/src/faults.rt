@@ -1,0 +1,82 @@
+//! Why the program does not do what was asked.
+ghost use Rattle.std.specs.Prelude.{◌≡◌};
+ghost use Rattle.salvage_cli.specs.Answers.{of_geo, of_list, of_read, of_words};
+
+use command_line::WordsFault;
+use dbdata_list::ListFault;
+use page_access::ReadFault;
+use page_size::GeoFault;
+
+/// Why the program does not do what was asked (docs/TEXTS.md, "Statuses").
+#[derive(Clone, Copy, Debug, PartialEq, Eq)]
+pub enum Fault {
+    /// The words are no command.
+    Usage,
+    /// A call of the source failed.
+    InputFault,
+    /// The input has over 2^28 bytes.
+    TooLarge {
+        /// Bytes of the input.
+        len: u64,
+    },
+    /// Neither an option nor the header nor a page tells the page size.
+    NoPageSize,
+    /// The input is shorter than a page.
+    NoWholePage {
+        /// Bytes of the input.
+        len: u64,
+        /// Bytes of a page.
+        size: u32,
+    },
+    /// A call of the report failed.
+    ReportFault,
+    /// There was no memory.
+    Memory,
+}
+
+impl From<WordsFault> for Fault {
+    ghost from_gives = { λ fault e. e ≡ of_words fault };
+
+    fn from(fault: WordsFault) -> Self {
+        match fault {
+            WordsFault::Usage => Fault::Usage,
+            WordsFault::Memory => Fault::Memory,
+        }
+    }
+}
+
+impl From<ReadFault> for Fault {
+    ghost from_gives = { λ fault e. e ≡ of_read fault };
+
+    fn from(fault: ReadFault) -> Self {
+        match fault {
+            ReadFault::Source => Fault::InputFault,
+            ReadFault::Memory => Fault::Memory,
+        }
+    }
+}
+
+impl From<GeoFault> for Fault {
+    ghost from_gives = { λ fault e. e ≡ of_geo fault };
+
+    fn from(fault: GeoFault) -> Self {
+        match fault {
+            GeoFault::NoPageSize => Fault::NoPageSize,
+            GeoFault::NoWholePage { len, size } => Fault::NoWholePage { len, size },
+            GeoFault::Source => Fault::InputFault,
+            GeoFault::Memory => Fault::Memory,
+        }
+    }
+}
+
+impl From<ListFault> for Fault {
+    ghost from_gives = { λ fault e. e ≡ of_list fault };
+
+    fn from(fault: ListFault) -> Self {
+        match fault {
+            ListFault::Source => Fault::InputFault,
+            ListFault::Sink => Fault::ReportFault,
+            ListFault::Memory => Fault::Memory,
+        }
+    }
+}

@@ -1,0 +1,88 @@
+//! A command, done: its input is listed in the report.
+ghost use Rattle.std.specs.Prelude.{◌≡◌, Some, true, IfErr, IfSome, IsErrOf, OnOk};
+ghost use Rattle.page_access.specs.Files.{file_of};
+ghost use Rattle.page_access.specs.Outside.{HasCauseOf, KeepsSink, KeepsSource, WritesOf};
+ghost use Rattle.command_line.specs.Command.{view};
+ghost use Rattle.command_line.specs.Parts.{HasOptions};
+ghost use Rattle.salvage_cli.specs.Wanted.{listing_of, wanted};
+ghost use Rattle.salvage_cli.specs.Run.{GivesWanted, HasNumbers, IsEarly, IsLate};
+
+use crate::faults::Fault;
+use crate::inputs::find_pages;
+use command_line::{Mode, Request};
+use dbdata_list::{list_data, list_pointers};
+use page_access::{Geometry, ReadFault, Sink, Source};
+use std::alloc::Global;
+
+/// Lists the input in the report, and finishes the report.
+pub(crate) fn list<S: Source, R: Sink>(alloc: Global, request: &Request<'_>, src: &mut S, report: &mut R) -> Result<(), Fault>
+    requires { HasOptions request.now.page_size request.now.reserved }
+    ensures told { IfSome (S.bytes src.old) (λ all. GivesWanted (wanted (view request.now) all) (R.bytes report.old) (R.bytes report.new) result) }
+    ensures name { OnOk result (S.attached src.new ≡ Some request.now.input.now) }
+    ensures finished { OnOk result (R.finished report.new ≡ true) }
+    ensures early { IsEarly result → report.new ≡ report.old }
+    ensures command { IsErrOf result Fault.Usage → ⊥ }
+    ensures numbers { HasNumbers result }
+    ensures source { HasCauseOf Fault.InputFault (S.faults src.old) (S.faults src.new) result }
+    ensures sink { HasCauseOf Fault.ReportFault (R.faults report.old) (R.faults report.new) result }
+{
+    attach(alloc, request, src)?;
+    match find_pages(alloc, request, src)? {
+        Some(found) => put_all(alloc, request.mode, &found.geometry, src, report),
+        None => finish(report),
+    }
+}
+
+// Attaches the source to the input.
+fn attach<S: Source>(alloc: Global, request: &Request<'_>, src: &mut S) -> Result<(), ReadFault>
+    ensures name { OnOk result (S.attached src.new ≡ Some request.now.input.now) }
+    ensures bytes { S.bytes src.new ≡ S.bytes src.old }
+    ensures source { HasCauseOf ReadFault.Source (S.faults src.old) (S.faults src.new) result }
+{
+    let name = String::from_str(alloc, request.input)?;
+    src.attach(name)?;
+    Ok(())
+}
+
+// Lists a file in the report, and finishes the report.
+fn put_all<S: Source, R: Sink>(alloc: Global, mode: Mode, geo: &Geometry, src: &mut S, report: &mut R) -> Result<(), Fault>
+    ensures text { IfSome (S.bytes src.old) (λ all. GivesWanted (Ok (listing_of mode (file_of all geo.now))) (R.bytes report.old) (R.bytes report.new) result) }
+    ensures finished { OnOk result (R.finished report.new ≡ true) }
+    ensures source { HasCauseOf Fault.InputFault (S.faults src.old) (S.faults src.new) result }
+    ensures sink { HasCauseOf Fault.ReportFault (R.faults report.old) (R.faults report.new) result }
+    ensures kept { KeepsSource S.bytes S.attached S.faults S.reads src.old src.new }
+    ensures late { IsLate result }
+{
+    put_listing(alloc, mode, geo, src, report)?;
+    finish(report)
+}
+
+// Lists a file in the report.
+fn put_listing<S: Source, R: Sink>(alloc: Global, mode: Mode, geo: &Geometry, src: &mut S, report: &mut R) -> Result<(), Fault>
+    ensures text { IfSome (S.bytes src.old) (λ all.
+        WritesOf Fault.ReportFault (R.bytes report.old) (R.bytes report.new) (R.faults report.old) (R.faults report.new) (listing_of mode (file_of all geo.now)) result) }
+    ensures source { HasCauseOf Fault.InputFault (S.faults src.old) (S.faults src.new) result }
+    ensures sink { HasCauseOf Fault.ReportFault (R.faults report.old) (R.faults report.new) result }
+    ensures kept { KeepsSource S.bytes S.attached S.faults S.reads src.old src.new }
+    ensures kept_sink { KeepsSink R.created R.faults report.old report.new }
+    ensures late { IsLate result }
+{
+    match mode {
+        Mode::Dbdata => list_data(alloc, src, geo, report)?,
+        Mode::Dbptr => list_pointers(alloc, src, geo, report)?,
+    }
+    Ok(())
+}
+
+// Finishes the report.
+fn finish<R: Sink>(report: &mut R) -> Result<(), Fault>
+    ensures finished { OnOk result (R.finished report.new ≡ true) }
+    ensures only { IfErr result (λ fault. fault ≡ Fault.ReportFault) }
+    ensures sink { HasCauseOf Fault.ReportFault (R.faults report.old) (R.faults report.new) result }
+    ensures bytes { R.bytes report.new ≡ R.bytes report.old }
+{
+    match report.finish() {
+        Ok(()) => Ok(()),
+        Err(_) => Err(Fault::ReportFault),
+    }
+}

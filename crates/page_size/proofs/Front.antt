@@ -1,5 +1,5 @@
 -- The first bytes of a file.
-use Rattle.std.proofs.Common.{◌≡◌, ◌∙◌, ℕ, ◌-◌, min, List, [], ◌++◌, length, take, replicate, Option, Some, None, IfSome, sym, ap, arith, length-take, lit≤}
+use Rattle.std.proofs.Common.{◌≡◌, ◌∙◌, ℕ, ◌-◌, min, List, ◌++◌, length, take, replicate, Option, Some, None, IfSome, sym, ap, arith, length-take, lit≤}
 use Rattle.std.proofs.lemmas.List.{append-nil, take_min, take-take}
 use Rattle.page_access.specs.Pages.{zero_filled}
 use Rattle.page_size.specs.declared.headers.Header.{Header}

@@ -1,5 +1,5 @@
 -- How the page size is told from the pages (docs/FORMAT.md, "The page size").
-use Rattle.std.specs.Prelude.{ℕ, ◌+◌, ◌-◌, ◌/◌, nat_lt, nat_le, Bool, true, false, ◌&&◌, Option, Some, None, List, length, map, filter, find, count_by, is_ok}
+use Rattle.std.specs.Prelude.{ℕ, ◌+◌, ◌-◌, ◌/◌, nat_lt, nat_le, Bool, false, ◌&&◌, Option, Some, None, List, length, map, filter, find, count_by, is_ok}
 use Rattle.std.specs.List.{list_all, range_with_len}
 use Rattle.page_access.specs.Pages.{page_sizes, page_of}
 use Rattle.cell_reader.specs.declared.shapes.PageShape.{PageShape}

@@ -1,4 +1,4 @@
-use Rattle.std.proofs.Common.{length-take, rules, arith}
+use Rattle.std.proofs.Common.{length-take, arith}
 use Rattle.page_size.proofs.Front.{told_header}
 use Rattle.page_size.proofs.finds.header_of_source.Goals as goal
 

@@ -1,4 +1,4 @@
-use Rattle.std.proofs.Common.{◌∙◌, sym, ap, rules, arith}
+use Rattle.std.proofs.Common.{◌∙◌, sym, ap}
 use Rattle.page_size.specs.Score.{winner}
 use Rattle.page_size.proofs.Ranks.{winner_usable}
 use Rattle.page_size.proofs.finds.scored_sizing.Goals as goal

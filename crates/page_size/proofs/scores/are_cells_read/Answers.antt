@@ -1,4 +1,4 @@
-use Rattle.std.proofs.Common.{◌∙◌, ap, sym, is_ok, rules, arith}
+use Rattle.std.proofs.Common.{◌∙◌, ap, sym, is_ok, arith}
 use Rattle.page_size.proofs.Counts.{all_next}
 use Rattle.page_size.proofs.scores.are_cells_read.Goals as goal
 

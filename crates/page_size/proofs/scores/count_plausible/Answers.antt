@@ -1,4 +1,4 @@
-use Rattle.std.proofs.Common.{◌≡◌, ◌+◌, ◌∙◌, ap, rules, arith}
+use Rattle.std.proofs.Common.{◌+◌, ◌∙◌, ap, rules, arith}
 use Rattle.page_size.proofs.Counts.{counts_once, once, told_count, told_reads}
 use Rattle.page_size.proofs.scores.count_plausible.Goals as goal
 

@@ -1,6 +1,7 @@
 //! Records in their shortest spelling.
 
 ghost use Rattle.std.specs.Prelude.{◌≡◌, ◌≤◌, ◌<◌, ◌+◌, ◌^◌, ◌++◌, ℕ, List, length, take, drop};
+ghost use Rattle.varint_core.specs.Shortest.{spell};
 ghost use Rattle.record_core.specs.Shortest.{IsStored, AllStored, IsWritable, steps, width_type, whole_type, serial_type, body_of, types_of, bodies_of, header_len, record_bytes, text_len, put_at};
 ghost use Rattle.record_core.specs.Spelling.{IsRecord, IsShortestRecord};
 ghost use Rattle.record_core.specs.Record.{record_of};
@@ -210,6 +211,16 @@ fn bodies_len<F: Fields>(values: &F) -> usize
     total
 }
 
+// Puts the serial type of a value at a place, and gives the place behind it.
+fn put_type(to: &mut [u8], at: usize, value: &Value) -> usize
+    requires short { text_len value.now < 2 ^ 40 }
+    requires room { at + length (spell (serial_type value.now)) ≤ length to.old }
+    ensures end { result ≡ at + length (spell (serial_type value.now)) }
+    ensures after { to.new ≡ put_at to.old at (spell (serial_type value.now)) }
+{
+    put(to, at, write_varint(serial_type(value)).as_slice())
+}
+
 // Puts the serial types of values at a place, and gives the place behind them.
 fn put_types<F: Fields>(to: &mut [u8], at: usize, values: &F) -> usize
     requires fit { IsWritable (F.values values.now) }
@@ -219,8 +230,7 @@ fn put_types<F: Fields>(to: &mut [u8], at: usize, values: &F) -> usize
 {
     let mut end = at;
     for i in 0..values.count() {
-        let spelled = write_varint(serial_type(values.field(i)));
-        end = put(to, end, spelled.as_slice());
+        end = put_type(to, end, values.field(i));
     }
     end
 }

@@ -142,7 +142,7 @@ impl Fields for Repeated<'_> {
     }
 }
 
-// Writes the record into bytes of ee, and says whether the front is as wanted and the rest still ee.
+// Writes the record into bytes of ee: the front is as wanted, and the rest is still ee.
 fn is_front<F: Fields>(fields: &F, wanted: &[u8]) -> bool
     requires { IsWritable (F.values fields.now) }
 {

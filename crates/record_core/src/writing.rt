@@ -39,7 +39,8 @@ pub fn write_record<F: Fields>(values: &F, to: &mut [u8]) -> usize
 
 /// A record of few values is read back.
 pub fn a_record_is_read_back()
-    ensures { (s : List ℕ) (vs : List Value) → IsRecord s vs → length vs ≤ 1996 → record_of s ≡ Ok vs }
+    ensures { (s : List ℕ) (vs : List Value) → IsRecord s vs → length vs ≤ 1996
+        → record_of s ≡ Ok vs }
 {}
 
 // Puts the record to the front, and gives its length.

@@ -6,6 +6,8 @@ use Rattle.varint_core.specs.Varint.{varint_at, IsVarint}
 use Rattle.varint_core.proofs.Laws.{varint_again, varint_found}
 use Rattle.record_core.specs.declared.faults.RecordFault.{RecordFault}
 use Rattle.record_core.specs.declared.faults.RecordFault.TheVariants.{HeaderBad, TooManyFields, Reserved, BodyShort, Memory}
+use Rattle.record_core.specs.Tally.{layout_at, layout_of}
+use Rattle.record_core.specs.declared.spans.Layout.{Layout}
 use Rattle.record_core.specs.declared.spans.RecordSpans.{RecordSpans}
 use Rattle.record_core.specs.declared.values.Value.{Value}
 use Rattle.record_core.specs.Record.{Header, and_then, header_types, header_from, header_at, checked, record_header, record_of, spans_of, spans_at, values_at, types_in, bodies_len, is_reserved, Gives}
@@ -158,3 +160,7 @@ answer_fault view payload (Err Memory) e = inl refl
 pub spans_fault : (payload : List ℕ) (r : Result RecordSpans RecordFault) → r ≡ spans_of payload → IfErr r (IsCause payload)
 spans_fault payload (Ok s) e = tt
 spans_fault payload (Err f) e = record_cause payload f (kept_fault (record_header payload) spans_at f (sym e))
+
+-- no fault of the payload is want of memory
+pub layout_fault : (payload : List ℕ) (r : Result Layout RecordFault) → r ≡ layout_of payload → r ≡ Err Memory → ⊥
+layout_fault payload r e f = record_cause payload Memory (kept_fault (record_header payload) layout_at Memory (sym e ∙ f))

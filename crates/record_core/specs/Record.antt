@@ -13,7 +13,8 @@ use Rattle.record_core.specs.declared.values.Value.TheVariants.{Null, Whole, Rea
 unfoldable pub body_len : ℕ → ℕ
 body_len t =
     if nat_lt t 5 then t
-    else (if t == 5 then 6 else (if nat_lt t 8 then 8 else (if nat_lt t 12 then 0 else (t - 12) / 2)))
+    else (if t == 5 then 6
+    else (if nat_lt t 8 then 8 else (if nat_lt t 12 then 0 else (t - 12) / 2)))
 
 -- the serial types that stand for nothing yet
 abbrev pub is_reserved : ℕ → Bool
@@ -48,7 +49,8 @@ bodies_len types = sum_by body_len types
 -- the values that stand one after another at the front of the bytes
 abbrev pub values_of : List ℕ → List ℕ → List Value
 values_of [] bodies = []
-values_of (t ∷ ts) bodies = value_of t (take (body_len t) bodies) ∷ values_of ts (drop (body_len t) bodies)
+values_of (t ∷ ts) bodies =
+    value_of t (take (body_len t) bodies) ∷ values_of ts (drop (body_len t) bodies)
 
 -- a header: where its first serial type stands, its size, and the serial types
 pub record Header : Type 0 where
@@ -80,7 +82,8 @@ checked payload h =
     else (if nat_lt (length payload) (h.size + bodies_len h.types) then Err BodyShort else Ok h))
 
 -- what a result holds, taken further
-abbrev pub and_then : {X Y : Type 0} → Result X RecordFault → (X → Result Y RecordFault) → Result Y RecordFault
+abbrev pub and_then : {X Y : Type 0} → Result X RecordFault → (X → Result Y RecordFault)
+    → Result Y RecordFault
 and_then (Ok x) next = next x
 and_then (Err fault) next = Err fault
 

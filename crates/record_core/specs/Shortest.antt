@@ -59,7 +59,8 @@ header_len n = if nat_lt n 127 then n + 1 else (if nat_lt n 16382 then n + 2 els
 
 -- the shortest record of the values
 unfoldable pub record_bytes : List Value → List ℕ
-record_bytes values = spell (header_len (length (types_of values))) ++ (types_of values ++ bodies_of values)
+record_bytes values =
+    spell (header_len (length (types_of values))) ++ (types_of values ++ bodies_of values)
 
 -- the bytes of a text or a blob
 abbrev pub text_len : Value → ℕ

@@ -34,7 +34,8 @@ IsBody t body (Blob bytes) = (t ≡ 2 * length body + 12) × (bytes ≡ body)
 abbrev pub SpellsTypes : List ℕ → List ℕ → Type 0
 SpellsTypes bytes [] = bytes ≡ []
 SpellsTypes bytes (t ∷ ts) =
-    (first : List ℕ) × (others : List ℕ) × (bytes ≡ first ++ others) × IsVarint first t × SpellsTypes others ts
+    (first : List ℕ) × (others : List ℕ) × (bytes ≡ first ++ others) × IsVarint first t
+    × SpellsTypes others ts
 
 -- the bytes are the bodies of these serial types, one after another, with these values
 abbrev pub SpellsBodies : List ℕ → List ℕ → List Value → Type 0
@@ -42,10 +43,11 @@ SpellsBodies bytes [] [] = bytes ≡ []
 SpellsBodies bytes [] (v ∷ vs) = ⊥
 SpellsBodies bytes (t ∷ ts) [] = ⊥
 SpellsBodies bytes (t ∷ ts) (v ∷ vs) =
-    (first : List ℕ) × (others : List ℕ) × (bytes ≡ first ++ others) × IsBody t first v × SpellsBodies others ts vs
+    (first : List ℕ) × (others : List ℕ) × (bytes ≡ first ++ others) × IsBody t first v
+    × SpellsBodies others ts vs
 
--- The bytes spell the values: the header's size, which counts its own bytes too, the serial types, the
--- bodies, and any bytes after them.
+-- The bytes spell the values: the header's size, which counts its own bytes too, the serial types,
+-- the bodies, and any bytes after them.
 pub record IsRecord (bytes : List ℕ) (values : List Value) : Type 0 where
   pub types : List ℕ
   pub size : List ℕ
@@ -74,4 +76,5 @@ AreBytes bytes = (k : ℕ) → slice_index bytes k < 256
 -- the bytes spell the values, and no fewer bytes do
 pub record IsShortestRecord (bytes : List ℕ) (values : List Value) : Type 0 where
   pub spelled : IsRecord bytes values
-  pub least : (other : List ℕ) → AreBytes other → IsRecord other values → length bytes ≤ length other
+  pub least : (other : List ℕ) → AreBytes other → IsRecord other values
+      → length bytes ≤ length other

@@ -1,4 +1,4 @@
--- What the serial types of a header say together (docs/FORMAT.md, "Records"; fileformat2.html, 2.1).
+-- What serial types say together (docs/FORMAT.md, "Records"; fileformat2.html, 2.1).
 use Rattle.std.specs.Prelude.{◌≡◌, ◌≤◌, ℕ, ◌+◌, ◌-◌, nat_lt, List, length, take, drop, Option, Some, None, Result, Ok, if◌then◌else◌}
 use Rattle.std.specs.List.{list_any}
 use Rattle.record_core.specs.declared.faults.RecordFault.{RecordFault}
@@ -18,7 +18,8 @@ more_within room (Some used) more = within room (used + more)
 -- what the serial types say
 abbrev pub tally_of : ℕ → List ℕ → Tally
 tally_of room types =
-    record { fields = length types; reserved = list_any is_reserved types; bodies = within room (bodies_len types) }
+    let fits = within room (bodies_len types) in
+    record { fields = length types; reserved = list_any is_reserved types; bodies = fits }
 
 -- a header's sizes, and where its first serial type stands
 abbrev pub layout_at : Header → Layout

@@ -5,7 +5,8 @@ use thiserror::Error;
 /// Why `read_record` gave no values: the first of these, in this order, that holds.
 #[derive(Clone, Copy, Debug, PartialEq, Eq, Error)]
 pub enum RecordFault {
-    /// The header's size is no varint, too small or too large, or a serial type does not end in the header.
+    /// The header's size is no varint, too small or too large, or a serial type does not end in
+    /// the header.
     #[error("the header of the record is no header")]
     HeaderBad,
     /// The header has over 1,996 serial types.

@@ -1,6 +1,6 @@
 //! Reading a record.
 
-ghost use Rattle.std.specs.Prelude.{◌≡◌, ◌≤◌, ℕ, List, length, IfOk, IfErr, IsSomeAnd, ◌⊎◌};
+ghost use Rattle.std.specs.Prelude.{◌≡◌, ◌≤◌, ℕ, List, length, IfOk, IfErr, IsOk, IsErrOf, IsSomeAnd, ◌⊎◌};
 ghost use Rattle.record_core.specs.Record.{body_len, bodies_len, types_in, value_of, values_of, record_of, Gives};
 ghost use Rattle.record_core.specs.Faults.{IsCause};
 ghost use Rattle.record_core.specs.Spelling.{IsRecord};
@@ -12,22 +12,26 @@ use byteorder::{BigEndian, ByteOrder};
 use std::alloc::{AllocError, Global};
 use varint_core::read_varint;
 
-/// The values of the record at the front of the payload; bytes may follow them (fileformat2.html, 2.1).
-/// The faults are tested in the order of `RecordFault`, and `Memory` comes only where none of the others holds.
+/// The values of the record at the front of the payload; bytes may follow them
+/// (fileformat2.html, 2.1). The fault is the first of `RecordFault` that holds.
 pub fn read_record(alloc: Global, payload: &[u8]) -> Result<Vec<Value>, RecordFault>
     // What is answered is spelled by the payload.
     ensures found { IfOk result (λ v. IsRecord payload.now v.items) }
     // What the payload spells, with few values, is answered, unless memory runs out.
-    ensures only { (vs : List Value) → IsRecord payload.now vs → length vs ≤ 1996 → Gives (λ v. v.items) result (Ok vs) }
+    ensures only { (vs : List Value) → IsRecord payload.now vs → length vs ≤ 1996
+        → Gives (λ v. v.items) result (Ok vs) }
     ensures exact { Gives (λ v. v.items) result (record_of payload.now) }
     ensures fault { IfErr result (λ f. (f ≡ RecordFault.Memory) ⊎ IsCause payload.now f) }
+    // Memory runs out only where there are values.
+    ensures memory { IsErrOf result RecordFault.Memory → IsOk (record_of payload.now) }
 {
     decode(alloc, payload)
 }
 
 // The values of the record, or the first fault.
 fn decode(alloc: Global, payload: &[u8]) -> Result<Vec<Value>, RecordFault>
-    ensures { Gives (λ v. v.items) result (record_of payload.now) }
+    ensures exact { Gives (λ v. v.items) result (record_of payload.now) }
+    ensures memory { IsErrOf result RecordFault.Memory → IsOk (record_of payload.now) }
 {
     let layout = read_layout(payload)?;
     let types = &payload[layout.start..layout.spans.header];
@@ -46,7 +50,8 @@ fn values(
     fields: usize,
 ) -> Result<Vec<Value>, AllocError>
     requires { IsSomeAnd (types_in types.now) (λ ts. bodies_len ts ≤ length bodies.now) }
-    ensures { IfOk result (λ v. (ts : List ℕ) → types_in types.now ≡ Some ts → v.items ≡ values_of ts bodies.now) }
+    ensures { IfOk result (λ v. (ts : List ℕ) → types_in types.now ≡ Some ts
+        → v.items ≡ values_of ts bodies.now) }
 {
     let mut values = Vec::with_capacity(alloc, fields)?;
     let mut at = 0;

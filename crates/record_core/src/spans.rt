@@ -1,6 +1,6 @@
 //! The header of a record: its serial types, and what they say of the bytes.
 
-ghost use Rattle.std.specs.Prelude.{◌≡◌, ◌≤◌, ◌<◌, ◌+◌, ◌^◌, ◌||◌, List, length, option_map, IfOk, IfErr, IfSome};
+ghost use Rattle.std.specs.Prelude.{◌≡◌, ◌≤◌, ◌<◌, ◌+◌, ◌^◌, ◌||◌, List, length, option_map, IfOk, IfErr, IsErrOf, IfSome};
 ghost use Rattle.record_core.specs.Record.{body_len, is_reserved, types_in, spans_of};
 ghost use Rattle.record_core.specs.Tally.{tally_of, more_within, layout_of, HasValues};
 ghost use Rattle.record_core.specs.Faults.{IsCause};
@@ -28,8 +28,8 @@ pub struct Layout {
     pub spans: RecordSpans,
 }
 
-// What serial types say together: how many they are, whether one is reserved, and the length of their
-// bodies where there is room for it.
+// What serial types say together: how many they are, whether one is reserved, and the length of
+// their bodies where there is room for it.
 #[derive(Clone, Copy)]
 pub struct Tally {
     pub fields: usize,
@@ -45,7 +45,8 @@ pub fn record_spans(payload: &[u8]) -> Result<RecordSpans, RecordFault>
     // What is answered are the sizes of a record that the payload spells.
     ensures found { IfOk result (λ s. AreSpans payload.now s) }
     // The sizes of a record with few values are answered.
-    ensures only { (vs : List Value) (r : IsRecord payload.now vs) → length vs ≤ 1996 → result ≡ Ok (spans_in r) }
+    ensures only { (vs : List Value) (r : IsRecord payload.now vs) → length vs ≤ 1996
+        → result ≡ Ok (spans_in r) }
     ensures exact { result ≡ spans_of payload.now }
     ensures fault { IfErr result (IsCause payload.now) }
 {
@@ -64,6 +65,7 @@ fn spans(payload: &[u8]) -> Result<RecordSpans, RecordFault>
 pub fn read_layout(payload: &[u8]) -> Result<Layout, RecordFault>
     ensures exact { result ≡ layout_of payload.now }
     ensures values { IfOk result (λ l. HasValues payload.now l) }
+    ensures no_memory { IsErrOf result RecordFault.Memory → ⊥ }
 {
     layout_at(payload)
 }

@@ -1,3 +1,6 @@
+ghost use Rattle.std.specs.Prelude.{replicate};
+ghost use Rattle.record_core.specs.Shortest.{IsWritable};
+
 use super::*;
 use std::test::*;
 
@@ -118,4 +121,124 @@ fn the_sizes_of_a_record_are_told(rt: HostRuntime) {
     );
     assert_eq!(rt; record_spans(&[0x02, 0x0a]), Err(RecordFault::Reserved));
     assert_eq!(rt; record_spans(&[0x02, 0x01]), Err(RecordFault::BodyShort));
+}
+
+// One value, many times.
+#[derive(Clone, Copy)]
+struct Repeated<'a> {
+    value: &'a Value,
+    count: usize,
+}
+
+impl Fields for Repeated<'_> {
+    ghost values = { λ s. replicate s.count s.value.now };
+
+    fn count(&self) -> usize {
+        self.count
+    }
+
+    fn field(&self, _i: usize) -> &Value {
+        self.value
+    }
+}
+
+// Writes the record into bytes of ee: the front is as wanted, and the rest is still ee.
+fn is_front<F: Fields>(fields: &F, wanted: &[u8]) -> bool
+    requires { IsWritable (F.values fields.now) }
+{
+    let mut to = [0xeeu8; 200];
+    let len = record_len(fields);
+    if len > to.len() {
+        return false;
+    }
+    let written = write_record(fields, &mut to);
+    let (front, rest) = to.split_at(len);
+    written == len && front == wanted && rest.iter().all(|byte| *byte == 0xee)
+}
+
+fn is_written(values: &[Value], wanted: &[u8]) -> bool
+    requires { IsWritable values.now }
+{
+    is_front(&FieldSlice { values }, wanted)
+}
+
+#[test]
+fn a_number_and_a_text_are_written(rt: HostRuntime) -> Result<(), Fail> {
+    let text = Bytes::copy_of(rt.alloc(), b"x").ok().ok_or("a text")?;
+    let values = [Value::Whole(5), Value::Text(text)];
+    assert!(rt; is_written(&values, &[0x03, 0x01, 0x0f, 0x05, 0x78]));
+    Ok(())
+}
+
+#[test]
+fn small_numbers_have_no_body_where_they_are_0_or_1(rt: HostRuntime) {
+    let values = [
+        Value::Whole(3),
+        Value::Whole(4),
+        Value::Whole(1),
+        Value::Whole(1),
+        Value::Whole(7),
+    ];
+    let wanted = [0x06, 0x01, 0x01, 0x09, 0x09, 0x01, 0x03, 0x04, 0x07];
+    assert!(rt; is_written(&values, &wanted));
+}
+
+// A record of one number alone.
+fn is_number(number: i64, wanted: &[u8]) -> bool {
+    is_written(&[Value::Whole(number)], wanted)
+}
+
+#[test]
+fn each_number_has_the_shortest_body(rt: HostRuntime) {
+    assert!(rt; is_number(0, &[0x02, 0x08]));
+    assert!(rt; is_number(-1, &[0x02, 0x01, 0xff]));
+    assert!(rt; is_number(127, &[0x02, 0x01, 0x7f]));
+    assert!(rt; is_number(128, &[0x02, 0x02, 0x00, 0x80]));
+    assert!(rt; is_number(-129, &[0x02, 0x02, 0xff, 0x7f]));
+    assert!(rt; is_number(32768, &[0x02, 0x03, 0x00, 0x80, 0x00]));
+    assert!(rt; is_number(8388608, &[0x02, 0x04, 0x00, 0x80, 0x00, 0x00]));
+    assert!(rt;
+        is_number(
+            -(1 << 47),
+            &[0x02, 0x05, 0x80, 0x00, 0x00, 0x00, 0x00, 0x00]
+        )
+    );
+    assert!(rt;
+        is_number(
+            1 << 47,
+            &[0x02, 0x06, 0x00, 0x00, 0x80, 0x00, 0x00, 0x00, 0x00, 0x00]
+        )
+    );
+    assert!(rt;
+        is_number(
+            -(1 << 47) - 1,
+            &[0x02, 0x06, 0xff, 0xff, 0x7f, 0xff, 0xff, 0xff, 0xff, 0xff]
+        )
+    );
+    assert!(rt;
+        is_number(
+            i64::MIN,
+            &[0x02, 0x06, 0x80, 0x00, 0x00, 0x00, 0x00, 0x00, 0x00, 0x00]
+        )
+    );
+}
+
+#[test]
+fn the_size_of_a_header_counts_its_own_bytes(rt: HostRuntime) {
+    let null = Value::Null;
+    let mut wanted = [0u8; 127];
+    wanted[0] = 0x7f;
+    let fields = Repeated {
+        value: &null,
+        count: 126,
+    };
+    assert!(rt; is_front(&fields, &wanted));
+    let mut wanted = [0u8; 129];
+    wanted[0] = 0x81;
+    wanted[1] = 0x01;
+    let fields = Repeated {
+        value: &null,
+        count: 127,
+    };
+    assert!(rt; is_front(&fields, &wanted));
 }

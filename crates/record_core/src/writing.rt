@@ -1,6 +1,7 @@
 //! Records in their shortest spelling.
 
 ghost use Rattle.std.specs.Prelude.{◌≡◌, ◌≤◌, ◌<◌, ◌+◌, ◌^◌, ◌++◌, ℕ, List, length, take, drop};
+ghost use Rattle.varint_core.specs.Shortest.{spell};
 ghost use Rattle.record_core.specs.Shortest.{IsStored, AllStored, IsWritable, steps, width_type, whole_type, serial_type, body_of, types_of, bodies_of, header_len, record_bytes, text_len, put_at};
 ghost use Rattle.record_core.specs.Spelling.{IsRecord, IsShortestRecord};
 ghost use Rattle.record_core.specs.Record.{record_of};
@@ -38,7 +39,8 @@ pub fn write_record<F: Fields>(values: &F, to: &mut [u8]) -> usize
 
 /// A record of few values is read back.
 pub fn a_record_is_read_back()
-    ensures { (s : List ℕ) (vs : List Value) → IsRecord s vs → length vs ≤ 1996 → record_of s ≡ Ok vs }
+    ensures { (s : List ℕ) (vs : List Value) → IsRecord s vs → length vs ≤ 1996
+        → record_of s ≡ Ok vs }
 {}
 
 // Puts the record to the front, and gives its length.
@@ -210,6 +212,16 @@ fn bodies_len<F: Fields>(values: &F) -> usize
     total
 }
 
+// Puts the serial type of a value at a place, and gives the place behind it.
+fn put_type(to: &mut [u8], at: usize, value: &Value) -> usize
+    requires short { text_len value.now < 2 ^ 40 }
+    requires room { at + length (spell (serial_type value.now)) ≤ length to.old }
+    ensures end { result ≡ at + length (spell (serial_type value.now)) }
+    ensures after { to.new ≡ put_at to.old at (spell (serial_type value.now)) }
+{
+    put(to, at, write_varint(serial_type(value)).as_slice())
+}
+
 // Puts the serial types of values at a place, and gives the place behind them.
 fn put_types<F: Fields>(to: &mut [u8], at: usize, values: &F) -> usize
     requires fit { IsWritable (F.values values.now) }
@@ -219,8 +231,7 @@ fn put_types<F: Fields>(to: &mut [u8], at: usize, values: &F) -> usize
 {
     let mut end = at;
     for i in 0..values.count() {
-        let spelled = write_varint(serial_type(values.field(i)));
-        end = put(to, end, spelled.as_slice());
+        end = put_type(to, end, values.field(i));
     }
     end
 }

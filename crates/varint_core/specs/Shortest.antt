@@ -15,7 +15,8 @@ varint_len v =
     else (if nat_lt v (2 ^ 21) then 3
     else (if nat_lt v (2 ^ 28) then 4
     else (if nat_lt v (2 ^ 35) then 5
-    else (if nat_lt v (2 ^ 42) then 6 else (if nat_lt v (2 ^ 49) then 7 else (if nat_lt v (2 ^ 56) then 8 else 9)))))))
+    else (if nat_lt v (2 ^ 42) then 6
+    else (if nat_lt v (2 ^ 49) then 7 else (if nat_lt v (2 ^ 56) then 8 else 9)))))))
 
 -- n bytes that continue, with the lowest 7 n bits of a number, the highest first
 abbrev pub front_of : ℕ → ℕ → List ℕ

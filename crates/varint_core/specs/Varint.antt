@@ -48,4 +48,5 @@ varint_at bytes = varint_from 0 0 bytes
 
 -- whatever spelling begins the bytes is what was read: its number and its length
 abbrev pub IsReadWhole : List ℕ → Option (ℕ × ℕ) → Type 0
-IsReadWhole bytes read = (s rest : List ℕ) (v : ℕ) → IsVarint s v → bytes ≡ s ++ rest → read ≡ Some (v, length s)
+IsReadWhole bytes read =
+    (s rest : List ℕ) (v : ℕ) → IsVarint s v → bytes ≡ s ++ rest → read ≡ Some (v, length s)

@@ -26,7 +26,8 @@ pub fn write_varint(v: u64) -> ArrayVec<u8, 9>
 
 /// What spells a number is read back, whatever follows it.
 pub fn a_spelling_is_read_back()
-    ensures { (s rest : List ℕ) (v : ℕ) → IsVarint s v → varint_at (s ++ rest) ≡ Some (v, length s) }
+    ensures { (s rest : List ℕ) (v : ℕ) → IsVarint s v
+        → varint_at (s ++ rest) ≡ Some (v, length s) }
 {}
 
 // The length of the shortest spelling.

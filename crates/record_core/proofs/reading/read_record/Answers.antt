@@ -4,10 +4,10 @@ use Rattle.record_core.proofs.Again.{answer_only}
 use Rattle.record_core.proofs.reading.read_record.Goals as goal
 
 pub returns-clause-found : goal.returns-clause-found
-returns-clause-found c = answer_found (λ v. v.items) c.args.payload.now c.decode.result c.decode.ensures
+returns-clause-found c = answer_found (λ v. v.items) c.args.payload.now c.decode.result c.decode.ensures.exact
 
 pub returns-clause-only : goal.returns-clause-only
-returns-clause-only c = answer_only (λ v. v.items) c.args.payload.now c.decode.result c.decode.ensures
+returns-clause-only c = answer_only (λ v. v.items) c.args.payload.now c.decode.result c.decode.ensures.exact
 
 pub returns-clause-fault : goal.returns-clause-fault
-returns-clause-fault c = answer_fault (λ v. v.items) c.args.payload.now c.decode.result c.decode.ensures
+returns-clause-fault c = answer_fault (λ v. v.items) c.args.payload.now c.decode.result c.decode.ensures.exact

@@ -3,7 +3,7 @@ use Rattle.std.proofs.Common.{◌≡◌, ◌∙◌, ap, arith, ℕ, suc, ◌+◌
 use Rattle.std.specs.Prelude.{IfSome}
 use Rattle.page_access.specs.Outside.{WritesOf}
 use Rattle.dbdata_list.specs.Listing.{pages_text}
-use Rattle.page_access.proofs.Gains.{WroteFront, front_as, front_end_of, front_out_from, front_start, front_step_of}
+use Rattle.page_access.proofs.Gains.{WroteFront, front_as, front_end_of, front_left, front_out_from, front_start, front_step_of}
 
 -- of the text that the told bytes give, a front is written and a rest is still to come
 abbrev pub ToldFront : Option (List ℕ) → Option (List ℕ) → Option (List ℕ) → ℕ → ℕ → (List ℕ → List ℕ) → (List ℕ → List ℕ) → Type 0
@@ -53,3 +53,18 @@ pages_none text n i p le = let e : n - i ≡ 0 = omega arith in ap (λ m. pages_
 pub passed_on : {T E : Type 0} (r : Result T E) (e fault : E) → IsErrAnd r (λ x. x ≡ e) → IsErrOf r fault → e ≡ fault
 passed_on (Ok x) e fault h is = absurd h
 passed_on (Err x) e fault h is = let same : x ≡ e = h in cc
+
+-- the rest in other words: by the unused pages that a page left
+pub told_with : (told told' old now : Option (List ℕ)) (f g : ℕ) (text : List ℕ → List ℕ → List ℕ) (wanted : List ℕ → List ℕ) (left : List ℕ) (all : List ℕ → List ℕ)
+    → told' ≡ told → IfSome told' (λ bytes. left ≡ wanted bytes) → ToldFront told old now f g (λ bytes. text bytes (wanted bytes)) all
+    → ToldFront told old now f g (λ bytes. text bytes left) all
+told_with None told' old now f g text wanted left all same e w = tt
+told_with (Some bytes) told' old now f g text wanted left all same e w =
+    let one : left ≡ wanted bytes = subst (λ (o : Option (List ℕ)). IfSome o (λ b. left ≡ wanted b)) same e in
+    front_as (ap (text bytes) (sym one)) w
+
+-- an error that is not the sink's, before anything is put
+pub told_left : {T E : Type 0} (r : Result T E) (fault : E) (told old : Option (List ℕ)) (f : ℕ) (all : List ℕ → List ℕ) → IsErr r → (IsErrOf r fault → ⊥)
+    → IfSome told (λ bytes. WritesOf fault old old f f (all bytes) r)
+told_left r fault None old f all is other = tt
+told_left r fault (Some bytes) old f all is other = front_left fault is other (front_start old f (all bytes))

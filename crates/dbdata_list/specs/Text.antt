@@ -3,6 +3,9 @@ use Rattle.std.specs.Prelude.{ℕ, ℤ, ◌+◌, List, [], ◌∷◌, ◌++◌, 
 use Rattle.std.specs.Fmt.{signed_decimal}
 use Rattle.hex.specs.Hex.{encode_lower}
 use Rattle.record_core.specs.declared.values.Value.{Value}
+use Rattle.page_walk.specs.Cells.{Outcome, Read, Lost}
+use Rattle.page_walk.specs.declared.causes.CellCause.{CellCause}
+use Rattle.page_walk.specs.declared.causes.CellCause.TheVariants.{Pointer, Cut, Length, Overlap, Chain, BadRecord}
 use Rattle.record_core.specs.declared.values.Value.TheVariants.{Null, Whole, Real8, Text, Blob}
 
 -- the text of a value
@@ -59,3 +62,22 @@ pointer_line page child = decimal page ++ (codes " " ++ (decimal child ++ newlin
 abbrev pub pointer_lines : ℕ → List ℕ → List ℕ
 pointer_lines page [] = []
 pointer_lines page (child ∷ children) = pointer_line page child ++ pointer_lines page children
+
+-- the word for the cause of a cell that is not read
+abbrev pub cause_text : CellCause → List ℕ
+cause_text Pointer = codes "pointer"
+cause_text Cut = codes "cut"
+cause_text Length = codes "length"
+cause_text Overlap = codes "overlap"
+cause_text Chain = codes "chain"
+cause_text BadRecord = codes "record"
+
+-- the lines of a cell
+abbrev pub outcome_text : ℕ → Outcome → List ℕ
+outcome_text page (Read row) = row_text page row.cell row.rowid row.fields
+outcome_text page (Lost cell cause chain) = unread_line page cell (cause_text cause)
+
+-- the lines of cells, in order
+abbrev pub outcomes_text : ℕ → List Outcome → List ℕ
+outcomes_text page [] = []
+outcomes_text page (o ∷ os) = outcome_text page o ++ outcomes_text page os

@@ -1,15 +1,13 @@
 -- A turn takes the longest front of the chain whose pages are unused.
-use Rattle.std.proofs.Common.{◌≡◌, ℕ, zero, suc, ◌+◌, ◌<◌, ◌≤◌, true, false, if◌then◌else◌, List, [], ◌∷◌, length, take, refl, sym, ap, ◌∙◌, subst, inl, inr, arith}
+use Rattle.std.proofs.Common.{◌≡◌, ℕ, zero, suc, true, List, [], ◌∷◌, take, refl, sym, ap, ◌∙◌, subst, inl, inr, arith}
 use Rattle.page_access.specs.Pages.{File}
-use Rattle.page_lists.specs.Lists.{IsPartOf, count, is_in, without, minus}
-use Rattle.page_lists.specs.Table.{is_page}
+use Rattle.page_lists.specs.Lists.{IsPartOf, is_in, without, minus}
 use Rattle.page_lists.proofs.Counts.{in_or_not, in_part, in_head, part_rest, count-without}
-use Rattle.overflow_chain.specs.Chain.{IsChain, Linked, chain_len, contents, next_page}
-use Rattle.overflow_chain.specs.Turn.{bytes_of, end_of, turn, turn_end, turn_of, why_not}
-use Rattle.overflow_chain.specs.Laws.{EndsSo, IsTurn, TurnIsLongest, WholeIsAlwaysChain, WholeIsChain, reached}
+use Rattle.overflow_chain.specs.Chain.{Linked, chain_len, contents, next_page}
+use Rattle.overflow_chain.specs.Turn.{end_of, turn, turn_end, turn_of, why_not}
+use Rattle.overflow_chain.specs.Laws.{EndsSo, IsTurn, TurnIsLongest, WholeIsAlwaysChain, reached}
 use Rattle.overflow_chain.specs.declared.ChainEnd.{ChainEnd}
 use Rattle.overflow_chain.specs.declared.ChainEnd.TheVariants.{Whole, Broken}
-use Rattle.overflow_chain.specs.declared.Why.{Why}
 
 pub turn_part : (next : ℕ → ℕ) (k : ℕ) (unused : List ℕ) (q : ℕ) → IsPartOf (turn next k unused q) unused
 turn_part next zero unused q p = omega arith

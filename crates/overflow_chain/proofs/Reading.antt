@@ -5,7 +5,7 @@ use Rattle.std.specs.List.{slice_range}
 use Rattle.byteorder.specs.Endian.{big_number}
 use Rattle.page_access.specs.Files.{IsWhole, file_of}
 use Rattle.page_access.specs.Outside.{KeepsSource}
-use Rattle.page_access.specs.Pages.{File, page_of}
+use Rattle.page_access.specs.Pages.{page_of}
 use Rattle.page_access.specs.declared.geometry.Geometry.{Geometry}
 use Rattle.page_access.proofs.Keeps.{KeepsSource-refl, KeepsSource-trans}
 use Rattle.page_lists.specs.Lists.{count, is_in, without}
@@ -13,7 +13,6 @@ use Rattle.page_lists.specs.Table.{Table, IsPartition, Moves, is_page, moved, un
 use Rattle.page_lists.proofs.Counts.{length-without}
 use Rattle.page_lists.proofs.Uses.{Moves-append, Moves-none, Moves-one, Moves-partition, count-list_at, unused-moved, unused_not_page, unused_page}
 use Rattle.overflow_chain.specs.Turn.{GivesChain, Turned, bytes_of, turn_of, why_not}
-use Rattle.overflow_chain.specs.declared.ChainEnd.{ChainEnd}
 use Rattle.overflow_chain.specs.declared.ChainEnd.TheVariants.{Whole, Broken}
 use Rattle.overflow_chain.specs.declared.Why.{Why}
 use Rattle.overflow_chain.specs.declared.Why.TheVariants.{Range}

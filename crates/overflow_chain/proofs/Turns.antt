@@ -1,17 +1,16 @@
 -- The turn of a payload, page after page: what is taken so far, and what the rest gives.
-use Rattle.std.proofs.Common.{◌≡◌, ℕ, zero, suc, ◌+◌, ◌-◌, ◌*◌, ◌/◌, ◌<◌, ◌≤◌, ◌⊎◌, true, false, if◌then◌else◌, List, [], ◌∷◌, ◌++◌, length, take, drop, replicate, refl, sym, ap, ◌∙◌, subst, inl, inr, arith, length-append}
+use Rattle.std.proofs.Common.{◌≡◌, ℕ, zero, suc, ◌+◌, ◌-◌, ◌*◌, ◌/◌, ◌<◌, ◌≤◌, true, false, List, [], ◌∷◌, ◌++◌, length, take, drop, replicate, refl, sym, ap, ◌∙◌, inl, inr, arith, length-append}
 use Rattle.std.proofs.Math.Nat.{add-div_right, div-eq_of_lt}
 use Rattle.std.proofs.lemmas.Bool.{cases_lt}
 use Rattle.std.proofs.lemmas.List.{append-nil, append_assoc, length-take, length-drop, length-replicate}
 use Rattle.std.specs.List.{slice_range}
 use Rattle.byteorder.specs.Endian.{big_number}
-use Rattle.page_access.specs.Pages.{File, page_of, page_at, zero_filled}
+use Rattle.page_access.specs.Pages.{File, page_of, page_at}
 use Rattle.page_lists.specs.Lists.{is_in, without}
 use Rattle.page_lists.specs.Table.{Table, moved, unused, all_moved}
 use Rattle.page_lists.proofs.Uses.{unused-moved, all_moved-append}
 use Rattle.overflow_chain.specs.Chain.{chain_len, content_of, contents, next_page}
-use Rattle.overflow_chain.specs.Turn.{Turned, bytes_of, end_of, turn, turn_end, turn_of, why_not}
-use Rattle.overflow_chain.specs.declared.ChainEnd.{ChainEnd}
+use Rattle.overflow_chain.specs.Turn.{Turned, bytes_of, end_of, turn_of, why_not}
 use Rattle.overflow_chain.specs.declared.ChainEnd.TheVariants.{Whole, Broken}
 use Rattle.overflow_chain.specs.declared.Why.{Why}
 use Rattle.overflow_chain.specs.declared.TheConstants.{OVERFLOW_LIST}

@@ -59,8 +59,8 @@ unused_page t q each there =
 pub unused_not_page : (t : Table) (q : ℕ) → IsPartition t → is_page t.pages q ≡ false → is_in q (unused t) ≡ false
 unused_not_page t q each other =
     elim (in_or_not q (unused t)) [
-      inl w ↦ let page = unused_page t q each w.0 in absurd (false≢true (sym other ∙ and_from (nat_le 1 q) (nat_le q t.pages) (le-leb 1 q page.0) (le-leb q t.pages page.1)))
-    | inr w ↦ w.0
+      | inl w ↦ let page = unused_page t q each w.0 in absurd (false≢true (sym other ∙ and_from (nat_le 1 q) (nat_le q t.pages) (le-leb 1 q page.0) (le-leb q t.pages page.1)))
+      | inr w ↦ w.0
     ]
 
 -- a page is unused exactly where its list is list 0

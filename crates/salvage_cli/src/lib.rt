@@ -10,3 +10,4 @@ mod runs;
 
 pub use adapters::{FileSource, NoSink, StreamSink};
 pub use faults::Fault;
+pub use runs::run;

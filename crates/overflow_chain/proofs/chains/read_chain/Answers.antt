@@ -1,4 +1,4 @@
-use Rattle.std.proofs.Common.{◌≡◌, ℕ, ◌-◌, ◌≤◌, ◌∙◌, sym, ap, arith}
+use Rattle.std.proofs.Common.{ℕ, ◌-◌, ◌∙◌, sym, ap, arith}
 use Rattle.overflow_chain.proofs.Reading.{reading_start, reading_partition, reading_pages, reading_lists, reading_page, reading_more, reading_done, reading_chain, reading_broken, paid_err}
 use Rattle.overflow_chain.proofs.Taking.{taking_done}
 use Rattle.overflow_chain.proofs.chains.read_chain.Goals as goal

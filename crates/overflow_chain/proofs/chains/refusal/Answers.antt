@@ -1,6 +1,6 @@
-use Rattle.std.proofs.Common.{◌≡◌, ◌≤◌, ◌∙◌, nat_le, false, sym, arith}
+use Rattle.std.proofs.Common.{◌≡◌, ◌≤◌, ◌∙◌, nat_le, sym, arith}
 use Rattle.std.proofs.lemmas.Bool.{and_left, and_right, lt-leb, eq-eqb}
-use Rattle.page_lists.specs.Table.{is_page, owner}
+use Rattle.page_lists.specs.Table.{owner}
 use Rattle.page_lists.proofs.Uses.{owner-unused}
 use Rattle.overflow_chain.proofs.Reading.{out_of_range}
 use Rattle.overflow_chain.proofs.chains.refusal.Goals as goal

@@ -1,0 +1,47 @@
+-- The listing of all cells, page by page, and the unused pages that each page leaves.
+use Rattle.std.proofs.Common.{◌≡◌, ◌∙◌, ◌<◌, ◌≤◌, ℕ, suc, ◌+◌, ◌-◌, List, [], ◌∷◌, ◌++◌, length, drop, get_or, map, Option, Some, None, ap, arith, sym, lit≤}
+use Rattle.std.specs.Prelude.{IfSome}
+use Rattle.std.proofs.lemmas.List.{drop_more}
+use Rattle.page_access.specs.Pages.{File}
+use Rattle.page_lists.specs.Lists.{minus}
+use Rattle.page_lists.specs.Table.{Table, all_moved, fresh, unused}
+use Rattle.page_lists.proofs.Uses.{length-all_moved, pages-all_moved, unused-all_moved}
+use Rattle.page_walk.specs.Bounds.{Uses}
+use Rattle.page_walk.specs.Cells.{chains_of, outcome_of, outcomes_on}
+use Rattle.page_walk.specs.declared.outcomes.CellOutcome.{CellOutcome}
+use Rattle.dbdata_list.specs.Listing.{data_text, left_by, page_data, pages_data}
+use Rattle.dbdata_list.specs.Text.{outcome_text, outcomes_text}
+
+-- the lines from a cell on
+pub outcomes_more : (page i : ℕ) (cells : List CellOutcome) (c : CellOutcome) → c ≡ get_or cells i c → i < length cells →
+    outcomes_text page (map outcome_of (drop i cells)) ≡ outcome_text page (outcome_of c) ++ outcomes_text page (map outcome_of (drop (i + 1) cells))
+outcomes_more page i cells c is lt =
+    ap (λ cs. outcomes_text page (map outcome_of cs)) (drop_more cells i c lt)
+    ∙ ap (λ d. outcome_text page (outcome_of d) ++ outcomes_text page (map outcome_of (drop (i + 1) cells))) (sym is)
+
+-- all pages, over a fresh table
+pub data_all : (f : File) (t : Table) → t ≡ fresh f.pages 6 → data_text f ≡ pages_data f (f.pages - 0) 1 (unused t)
+unfolding data_text
+data_all f t e = let n : f.pages ≡ f.pages - 0 = omega arith in ap (λ m. pages_data f m 1 (unused (fresh f.pages 6))) n ∙ ap (λ u. pages_data f (f.pages - 0) 1 (unused u)) (sym e)
+
+-- one page, and the later ones
+pub data_more : (f : File) (n i : ℕ) (u : List ℕ) → i < n →
+    pages_data f (n - i) (i + 1) u ≡ page_data f (i + 1) u ++ pages_data f (n - (i + 1)) (i + 1 + 1) (left_by f (i + 1) u)
+data_more f n i u lt = let e : n - i ≡ suc (n - (i + 1)) = omega arith in ap (λ m. pages_data f m (i + 1) u) e
+
+-- what the cells of a page leave
+pub left_is : (told : Option (List ℕ)) (f : List ℕ → File) (p : ℕ) (old new : Table) (before after : List CellOutcome) → before ≡ [] → Uses old new before after
+    → IfSome told (λ all. map outcome_of after ≡ map outcome_of before ++ outcomes_on (f all) p (unused old)) → IfSome told (λ all. unused new ≡ left_by (f all) p (unused old))
+left_is None f p old new before after e u value = tt
+left_is (Some all) f p old new before after e u value =
+    let more : after ≡ u.more = u.all ∙ ap (λ b. b ++ u.more) e in
+    let outcomes : map outcome_of u.more ≡ outcomes_on (f all) p (unused old) =
+        ap (map outcome_of) (sym more) ∙ value ∙ ap (λ b. map outcome_of b ++ outcomes_on (f all) p (unused old)) e in
+    ap unused u.table ∙ unused-all_moved (chains_of (map outcome_of u.more)) 4 old (lit≤ tt) ∙ ap (λ os. minus (unused old) (chains_of os)) outcomes
+
+-- the table keeps its pages and its lists
+pub uses_pages : (old new : Table) (before after : List CellOutcome) → Uses old new before after → new.pages ≡ old.pages
+uses_pages old new before after u = ap (λ (t : Table). t.pages) u.table ∙ pages-all_moved (chains_of (map outcome_of u.more)) 4 old
+
+pub uses_lists : (old new : Table) (before after : List CellOutcome) → Uses old new before after → length new.lists ≡ length old.lists
+uses_lists old new before after u = ap (λ (t : Table). length t.lists) u.table ∙ length-all_moved (chains_of (map outcome_of u.more)) 4 old

@@ -1,0 +1,19 @@
+use Rattle.std.proofs.Common.{◌≡◌, ◌≤◌, ◌+◌, ◌-◌, length}
+use Rattle.page_access.specs.Files.{file_of}
+use Rattle.page_access.specs.Outside.{KeepsSink, KeepsSource}
+use Rattle.page_lists.specs.Table.{unused}
+use Rattle.dbdata_list.specs.Listing.{data_text, pages_data}
+use Rattle.dbdata_list.proofs.Told.{ToldFront}
+use Rattle.dbdata_list.proofs.cells.list_data.Given as goal
+
+-- the pages before this one are listed
+abbrev pub invariant-loop-done : goal.invariant-loop-done
+invariant-loop-done g l =
+    let s = g.S.Source in
+    let r = g.R.Sink in
+    ToldFront (s.bytes l.initial.src) (r.bytes l.initial.to) (r.bytes l.to) (r.faults l.initial.to) (r.faults l.to)
+    (λ all. pages_data (file_of all l.geo) (l.geo.pages - l.done) (l.done + 1) (unused l.table)) (λ all. data_text (file_of all l.geo))
+    × KeepsSource s.bytes s.attached s.faults s.reads l.initial.src l.src
+    × KeepsSink r.created r.faults l.initial.to l.to
+    × (l.table.pages ≡ l.geo.pages)
+    × (7 ≤ length l.table.lists)

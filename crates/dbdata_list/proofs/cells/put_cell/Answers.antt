@@ -1,0 +1,10 @@
+use Rattle.std.proofs.Common.{sym}
+use Rattle.page_access.proofs.Gains.{writes_same}
+use Rattle.dbdata_list.specs.Text.{outcome_text, row_text, unread_line}
+use Rattle.dbdata_list.proofs.cells.put_cell.Goals as goal
+
+pub returns-in-Taken-clause-writes : goal.returns-in-Taken-clause-writes
+returns-in-Taken-clause-writes g c = rw (c.in-Taken.is, sym c.deref.ensures.value) c.put_row.ensures.writes
+
+pub returns-in-Unread-clause-writes : goal.returns-in-Unread-clause-writes
+returns-in-Unread-clause-writes g c = rw (c.in-Unread.is, sym c.word.ensures.text) c.put_unread.ensures.writes

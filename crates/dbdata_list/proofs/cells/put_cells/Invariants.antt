@@ -1,0 +1,14 @@
+use Rattle.std.proofs.Common.{drop, map}
+use Rattle.page_access.specs.Outside.{KeepsSink}
+use Rattle.page_access.proofs.Gains.{WroteFront}
+use Rattle.page_walk.specs.Cells.{outcome_of}
+use Rattle.dbdata_list.specs.Text.{outcomes_text}
+use Rattle.dbdata_list.proofs.cells.put_cells.Given as goal
+
+-- the lines of the cells before this one are written
+abbrev pub invariant-loop-cell : goal.invariant-loop-cell
+invariant-loop-cell g l =
+    let s = g.R.Sink in
+    WroteFront (s.bytes l.initial.to) (s.bytes l.to) (s.faults l.initial.to) (s.faults l.to)
+    (outcomes_text l.page (map outcome_of (drop l.cell-index l.cells))) (outcomes_text l.page (map outcome_of l.cells))
+    × KeepsSink s.created s.faults l.initial.to l.to

@@ -1,0 +1,94 @@
+//! The listing of all cells.
+ghost use Rattle.std.specs.Prelude.{◌≡◌, ◌≤◌, ◌+◌, length, map, IfSome, OnOk};
+ghost use Rattle.page_access.specs.Files.{file_of};
+ghost use Rattle.page_access.specs.Outside.{HasCauseOf, KeepsSink, KeepsSource, Writes, WritesOf};
+ghost use Rattle.page_lists.specs.Table.{unused};
+ghost use Rattle.page_walk.specs.Cells.{outcome_of};
+ghost use Rattle.dbdata_list.specs.Listing.{data_text, left_by, page_data};
+ghost use Rattle.dbdata_list.specs.Text.{cause_text, outcome_text, outcomes_text};
+
+use crate::faults::ListFault;
+use crate::lines::{put_row, put_unread};
+use page_access::{Failed, Geometry, Sink, Source};
+use page_lists::PageTable;
+use page_walk::{CellCause, CellOutcome, cells_of};
+use std::alloc::Global;
+
+// Lists of a page table: as many as the order of use has.
+const LISTS: u32 = 7;
+
+/// Lists every cell of every page in rising order: a line `PAGE CELL FIELD VALUE` for each value of a
+/// readable cell, its rowid first as field -1, and `PAGE CELL unread CAUSE` for any other cell.
+pub fn list_data<S: Source, R: Sink>(alloc: Global, src: &mut S, geo: &Geometry, to: &mut R) -> Result<(), ListFault>
+    ensures text { IfSome (S.bytes src.old) (λ all.
+        WritesOf ListFault.Sink (R.bytes to.old) (R.bytes to.new) (R.faults to.old) (R.faults to.new) (data_text (file_of all geo.now)) result) }
+    ensures source { HasCauseOf ListFault.Source (S.faults src.old) (S.faults src.new) result }
+    ensures sink { HasCauseOf ListFault.Sink (R.faults to.old) (R.faults to.new) result }
+    ensures kept { KeepsSource S.bytes S.attached S.faults S.reads src.old src.new }
+    ensures kept_sink { KeepsSink R.created R.faults to.old to.new }
+{
+    let mut table = PageTable::new(alloc, geo.pages, LISTS)?;
+    for done in 0..geo.pages {
+        list_cells(alloc, src, geo, &mut table, done + 1, to)?;
+    }
+    Ok(())
+}
+
+// Lists the cells of page `page` at their turns.
+fn list_cells<S: Source, R: Sink>(alloc: Global, src: &mut S, geo: &Geometry, table: &mut PageTable, page: u32, to: &mut R) -> Result<(), ListFault>
+    requires page_least { 1 ≤ page }
+    requires page_most { page ≤ geo.now.pages }
+    requires same_pages { table.old.pages ≡ geo.now.pages }
+    requires lists { 7 ≤ length table.old.lists }
+    ensures text { IfSome (S.bytes src.old) (λ all.
+        WritesOf ListFault.Sink (R.bytes to.old) (R.bytes to.new) (R.faults to.old) (R.faults to.new) (page_data (file_of all geo.now) page (unused table.old)) result) }
+    ensures left { OnOk result (IfSome (S.bytes src.old) (λ all. unused table.new ≡ left_by (file_of all geo.now) page (unused table.old))) }
+    ensures pages { OnOk result (table.new.pages ≡ table.old.pages) }
+    ensures lists_kept { OnOk result (length table.new.lists ≡ length table.old.lists) }
+    ensures source { HasCauseOf ListFault.Source (S.faults src.old) (S.faults src.new) result }
+    ensures sink { HasCauseOf ListFault.Sink (R.faults to.old) (R.faults to.new) result }
+    ensures kept { KeepsSource S.bytes S.attached S.faults S.reads src.old src.new }
+    ensures kept_sink { KeepsSink R.created R.faults to.old to.new }
+{
+    let mut cells = Vec::new(alloc);
+    cells_of(alloc, src, geo, table, page, &mut cells)?;
+    put_cells(to, page, &cells)?;
+    Ok(())
+}
+
+// Puts the lines of the cells of a page.
+fn put_cells<R: Sink>(to: &mut R, page: u32, cells: &[CellOutcome]) -> Result<(), Failed>
+    ensures writes { Writes (R.bytes to.old) (R.bytes to.new) (R.faults to.old) (R.faults to.new) (outcomes_text page (map outcome_of cells.now)) result }
+    ensures kept { KeepsSink R.created R.faults to.old to.new }
+{
+    for cell in cells {
+        put_cell(to, page, cell)?;
+    }
+    Ok(())
+}
+
+// Puts the lines of a cell.
+fn put_cell<R: Sink>(to: &mut R, page: u32, cell: &CellOutcome) -> Result<(), Failed>
+    ensures writes { Writes (R.bytes to.old) (R.bytes to.new) (R.faults to.old) (R.faults to.new) (outcome_text page (outcome_of cell.now)) result }
+    ensures kept { KeepsSink R.created R.faults to.old to.new }
+{
+    match cell {
+        CellOutcome::Taken(taken) => put_row(to, page, taken.place.cell, taken.rowid, &taken.fields),
+        CellOutcome::Unread { cell, cause, .. } => put_unread(to, page, *cell, word(*cause)),
+    }
+}
+
+// The word for the cause of a cell that is not read.
+fn word(cause: CellCause) -> &'static str
+    ensures text { result.now ≡ cause_text cause }
+    ensures short { length result.now ≤ 32 }
+{
+    match cause {
+        CellCause::Pointer => "pointer",
+        CellCause::Cut => "cut",
+        CellCause::Length => "length",
+        CellCause::Overlap => "overlap",
+        CellCause::Chain => "chain",
+        CellCause::BadRecord => "record",
+    }
+}

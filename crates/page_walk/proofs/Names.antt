@@ -1,5 +1,5 @@
 -- The children of the cells that a loop has passed, and of those to come.
-use Rattle.std.proofs.Common.{append-nil, Some, None, true, ◌≡◌, ◌<◌, ◌≤◌, ℕ, zero, suc, ◌+◌, ◌-◌, Bool, false, List, [], ◌∷◌, ◌++◌, length, Option, refl, sym, ◌∙◌, ap, arith, append_assoc, replicate}
+use Rattle.std.proofs.Common.{append-nil, length-append, Some, None, true, ◌≡◌, ◌<◌, ◌≤◌, ℕ, zero, suc, ◌+◌, ◌-◌, Bool, false, List, [], ◌∷◌, ◌++◌, length, Option, refl, sym, ◌∙◌, ap, arith, append_assoc, replicate}
 use Rattle.std.proofs.lemmas.List.{length-replicate}
 use Rattle.std.specs.Prelude.{option_to_list, if◌then◌else◌, IfSome, Result}
 use Rattle.std.specs.List.{flat_map}
@@ -45,6 +45,10 @@ marked_step cell n i marks lt =
 pub marked_end : (cell : ℕ → Result CellView CellFault) (n i : ℕ) (marks : List Bool) → n ≤ i → marked_from cell (n - i) i marks ≡ []
 marked_end cell n i marks le = let e : n - i ≡ 0 = omega arith in rw e refl
 
+few_option : (o : Option ℕ) → length (option_to_list o) ≤ 1
+few_option None = omega arith
+few_option (Some p) = omega arith
+
 pub naming_start : (page : List ℕ) (usable pages : ℕ) (shape : PageShape) (before : List ℕ) (marks : List Bool)
     → marks ≡ replicate usable false → Naming page usable pages shape before before 0 marks
 naming_start page usable pages shape before marks fresh = let all : shape.cells - 0 ≡ shape.cells = omega arith in record {
@@ -60,9 +64,9 @@ pub naming_more : (page : List ℕ) (usable pages : ℕ) (shape : PageShape) (be
     (child : Option ℕ) → Naming page usable pages shape before now i marks → i < shape.cells
     → after ≡ marks_with (marked_on (cell_of page usable pages shape i) marks) marks → length after ≡ usable
     → child ≡ child_by (screened_as (marked_on (cell_of page usable pages shape i) marks))
-    → next ≡ now ++ option_to_list child → length next ≤ length now + 1
+    → next ≡ now ++ option_to_list child
     → Naming page usable pages shape before next (i + 1) after
-naming_more page usable pages shape before now next i marks after child was lt marked len named pushed most =
+naming_more page usable pages shape before now next i marks after child was lt marked len named pushed =
     let cell : ℕ → Result CellView CellFault = cell_of page usable pages shape in
     let v : Verdict = marked_on (cell_of page usable pages shape i) marks in
     let later : List Verdict = marked_from cell (shape.cells - (i + 1)) (i + 1) (marks_with v marks) in
@@ -72,7 +76,7 @@ naming_more page usable pages shape before now next i marks after child was lt m
     record {
       rest = rw (pushed, named, marked) (append_assoc now (option_to_list (child_by (screened_as v))) (children_by later)
           ∙ ap (λ xs. now ++ xs) passed ∙ was.rest);
-      few = omega (arith, was.few);
+      few = omega (arith, was.few, ap length pushed, length-append now (option_to_list child), few_option child);
       len = len;
     }
 

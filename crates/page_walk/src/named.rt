@@ -1,5 +1,5 @@
 //! The pages that a page names.
-ghost use Rattle.std.specs.Prelude.{◌≡◌, ◌≤◌, ◌+◌, ◌*◌, ◌/◌, ◌++◌, length, IfOk, IfSome, OnOk, Some, option_to_list};
+ghost use Rattle.std.specs.Prelude.{◌≡◌, ◌≤◌, ◌+◌, ◌*◌, ◌/◌, ◌++◌, length, IfOk, IfSome, OnOk, Some};
 ghost use Rattle.cell_reader.specs.Shape.{shape_at};
 ghost use Rattle.page_access.specs.Files.{IsWhole, file_of};
 ghost use Rattle.page_access.specs.Outside.{HasCauseOf, KeepsSource};
@@ -7,6 +7,7 @@ ghost use Rattle.page_walk.specs.Pointers.{child_by, children_in, pointers_on};
 
 use crate::causes::CellCause;
 use crate::pages::load_page;
+use crate::pushes::push_some;
 use crate::screens::screen;
 use cell_reader::{Accepted, CellView, PageShape, right_child, shape};
 use page_access::{Geometry, ReadFault, Source};
@@ -20,17 +21,6 @@ fn accepted_child(cell: Result<CellView, CellCause>) -> Option<u32>
         Ok(view) => view.child,
         Err(_) => None,
     }
-}
-
-// Appends the page number, where there is one.
-fn push_some(to: &mut Vec<u32>, page: Option<u32>) -> Result<(), AllocError>
-    ensures items { OnOk result (to.new.items ≡ to.old.items ++ option_to_list page) }
-    ensures bound { length to.new.items ≤ length to.old.items + 1 }
-{
-    if let Some(page) = page {
-        to.push(page)?;
-    }
-    Ok(())
 }
 
 // Appends the child of each accepted cell of the page, in cell order.

@@ -1,5 +1,5 @@
 //! Files are built by hand from fileformat2.html, 1.6, 1.7 and 2.1.
-ghost use Rattle.std.specs.Prelude.{◌≡◌, ◌+◌, ◌≤◌, length};
+ghost use Rattle.std.specs.Prelude.{◌≡◌, ◌⊎◌};
 
 use crate::{CellCause, CellOutcome, PageNotes, cells_of, pointers, read_cells};
 use page_access::{Geometry, MemSource};

@@ -11,7 +11,7 @@ use Rattle.page_access.specs.Pages.{File}
 use Rattle.page_access.proofs.Keeps.{KeepsSource-refl, KeepsSource-trans}
 use Rattle.page_lists.specs.Lists.{minus}
 use Rattle.page_lists.specs.Table.{Table, Moves, all_moved, unused}
-use Rattle.page_lists.proofs.Uses.{unused-all_moved, all_moved-append, Moves-none, Moves-append, Moves-pages, Moves-lists}
+use Rattle.page_lists.proofs.Uses.{unused-all_moved, all_moved-append, Moves-none, Moves-append}
 use Rattle.cell_reader.specs.declared.shapes.PageShape.{PageShape}
 use Rattle.cell_reader.specs.declared.cells.CellView.{CellView}
 use Rattle.cell_reader.specs.declared.cells.CellFault.{CellFault}
@@ -33,7 +33,7 @@ use Rattle.page_walk.proofs.Names.{marked_end, marked_step}
 abbrev pub to_come : List ℕ → Geometry → List ℕ → PageShape → ℕ → ℕ → List Bool → List ℕ → List Outcome
 to_come all geo bytes shape page i marks unused =
     outcomes_from (file_of all geo) bytes page (has_payload shape.kind shape.leaf) i
-        (marked_from (cell_of bytes geo.usable geo.pages shape) (shape.cells - i) i marks) unused
+    (marked_from (cell_of bytes geo.usable geo.pages shape) (shape.cells - i) i marks) unused
 
 -- what a loop over the cells of a page keeps
 pub record Going {S : Type 0} (told attached : S → Option (List ℕ)) (faults reads : S → ℕ) (geo : Geometry) (bytes : List ℕ)
@@ -64,7 +64,7 @@ pub one_told : (P R : List ℕ → Type 0) (o : Option (List ℕ)) → ((all : L
 one_told P R None f p = tt
 one_told P R (Some all) f p = f all p
 
-all_append : {X : Type 0} (P : X → Type 0) (xs ys : List X) → AllByRecursion P xs → AllByRecursion P ys → AllByRecursion P (xs ++ ys)
+pub all_append : {X : Type 0} (P : X → Type 0) (xs ys : List X) → AllByRecursion P xs → AllByRecursion P ys → AllByRecursion P (xs ++ ys)
 all_append P [] ys h k = k
 all_append P (x ∷ xs) ys h k = (h.0, all_append P xs ys h.1 k)
 
@@ -87,11 +87,11 @@ rest_more : (f : File) (bytes : List ℕ) (page : ℕ) (payload : Bool) (cell : 
 rest_more f bytes page payload cell n i marks after u u' now os all lt marked is left h =
     let later : List Verdict = marked_from cell (n - (i + 1)) (i + 1) (marks_with (marked_on (cell i) marks) marks) in
     let step : os ++ outcomes_from f bytes page payload (i + 1) later (minus u (chains_of os))
-            ≡ outcomes_from f bytes page payload i (marked_from cell (n - i) i marks) u =
-        ap (λ (xs : List Outcome). xs ++ outcomes_from f bytes page payload (i + 1) later (minus u (chains_of xs))) is
-            ∙ ap (λ (vs : List Verdict). outcomes_from f bytes page payload i vs u) (sym (marked_step cell n i marks lt)) in
+    ≡ outcomes_from f bytes page payload i (marked_from cell (n - i) i marks) u =
+    ap (λ (xs : List Outcome). xs ++ outcomes_from f bytes page payload (i + 1) later (minus u (chains_of xs))) is
+    ∙ ap (λ (vs : List Verdict). outcomes_from f bytes page payload i vs u) (sym (marked_step cell n i marks lt)) in
     rw (marked, left) (append_assoc now os (outcomes_from f bytes page payload (i + 1) later (minus u (chains_of os)))
-        ∙ ap (λ (xs : List Outcome). now ++ xs) step ∙ h)
+    ∙ ap (λ (xs : List Outcome). now ++ xs) step ∙ h)
 
 pub going_start : {S : Type 0} (told attached : S → Option (List ℕ)) (faults reads : S → ℕ) (geo : Geometry) (bytes : List ℕ)
     (shape : PageShape) (page : ℕ) (src : S) (t : Table) (before : List CellOutcome) (marks : List Bool)
@@ -101,22 +101,22 @@ unfolding outcomes_in verdicts
 going_start told attached faults reads geo bytes shape page src t before marks fresh =
     let all_cells : shape.cells - 0 ≡ shape.cells = omega arith in
     let same : marked_from (cell_of bytes geo.usable geo.pages shape) (shape.cells - 0) 0 marks ≡ verdicts bytes geo.usable geo.pages shape =
-        ap (λ (n : ℕ). marked_from (cell_of bytes geo.usable geo.pages shape) n 0 marks) all_cells
-            ∙ ap (λ (ms : List Bool). marked_from (cell_of bytes geo.usable geo.pages shape) shape.cells 0 ms) fresh
-            ∙ page_marked bytes geo.usable geo.pages shape in
+    ap (λ (n : ℕ). marked_from (cell_of bytes geo.usable geo.pages shape) n 0 marks) all_cells
+    ∙ ap (λ (ms : List Bool). marked_from (cell_of bytes geo.usable geo.pages shape) shape.cells 0 ms) fresh
+    ∙ page_marked bytes geo.usable geo.pages shape in
     record {
-        kept = KeepsSource-refl told attached faults reads src;
-        read = always_told (λ all. IsWhole all geo → reads src + length (unused t) ≤ reads src + length (unused t) + 0) (told src) (λ all whole. omega arith);
-        moves = Moves-none OVERFLOW_LIST t;
-        len = ap length fresh ∙ length-replicate geo.usable false;
-        more = [];
-        all = sym (append-nil before);
-        few = omega arith;
-        small = tt;
-        table = refl;
-        rest = always_told (λ all. map outcome_of before ++ to_come all geo bytes shape page 0 marks (unused t)
-              ≡ map outcome_of before ++ outcomes_in (file_of all geo) bytes page shape (unused t)) (told src)
-            (λ all. ap (λ (vs : List Verdict). map outcome_of before ++ outcomes_from (file_of all geo) bytes page (has_payload shape.kind shape.leaf) 0 vs (unused t)) same);
+      kept = KeepsSource-refl told attached faults reads src;
+      read = always_told (λ all. IsWhole all geo → reads src + length (unused t) ≤ reads src + length (unused t) + 0) (told src) (λ all whole. omega arith);
+      moves = Moves-none OVERFLOW_LIST t;
+      len = ap length fresh ∙ length-replicate geo.usable false;
+      more = [];
+      all = sym (append-nil before);
+      few = omega arith;
+      small = tt;
+      table = refl;
+      rest = always_told (λ all. map outcome_of before ++ to_come all geo bytes shape page 0 marks (unused t)
+          ≡ map outcome_of before ++ outcomes_in (file_of all geo) bytes page shape (unused t)) (told src)
+          (λ all. ap (λ (vs : List Verdict). map outcome_of before ++ outcomes_from (file_of all geo) bytes page (has_payload shape.kind shape.leaf) 0 vs (unused t)) same);
     }
 
 pub going_more : {S : Type 0} {told attached : S → Option (List ℕ)} {faults reads : S → ℕ} {geo : Geometry} {bytes : List ℕ}
@@ -126,7 +126,7 @@ pub going_more : {S : Type 0} {told attached : S → Option (List ℕ)} {faults 
     → cell ≡ screened_as (marked_on (cell_of bytes geo.usable geo.pages shape i) marks)
     → after ≡ marks_with (marked_on (cell_of bytes geo.usable geo.pages shape i) marks) marks → length after ≡ length marks
     → IfSome (told src) (λ all. map outcome_of (option_to_list o)
-        ≡ outcome_at (file_of all geo) bytes page (has_payload shape.kind shape.leaf) i cell (unused new))
+    ≡ outcome_at (file_of all geo) bytes page (has_payload shape.kind shape.leaf) i cell (unused new))
     → new' ≡ all_moved (chains_of (map outcome_of (option_to_list o))) OVERFLOW_LIST new
     → IfSome o (λ x. IsSmall geo.usable geo.pages page (outcome_of x))
     → KeepsSource told attached faults reads src src' → Moves OVERFLOW_LIST new new'
@@ -135,60 +135,60 @@ pub going_more : {S : Type 0} {told attached : S → Option (List ℕ)} {faults 
 going_more {told = told} {reads = reads} {geo = geo} {bytes} {shape} {page} {src0} {src} {old} {new} {before} {now} {i} {marks}
     src' new' next after cell o was lt named marked len value moved small kept moves read pushed =
     let joined : chains_of (map outcome_of (was.more ++ option_to_list o))
-            ≡ chains_of (map outcome_of was.more) ++ chains_of (map outcome_of (option_to_list o)) =
-        ap chains_of (map-append outcome_of was.more (option_to_list o))
-            ∙ flat_map-append chain_of (map outcome_of was.more) (map outcome_of (option_to_list o)) in
+    ≡ chains_of (map outcome_of was.more) ++ chains_of (map outcome_of (option_to_list o)) =
+    ap chains_of (map-append outcome_of was.more (option_to_list o))
+    ∙ flat_map-append chain_of (map outcome_of was.more) (map outcome_of (option_to_list o)) in
     let grown : map outcome_of next ≡ map outcome_of now ++ map outcome_of (option_to_list o) =
-        ap (map outcome_of) pushed ∙ map-append outcome_of now (option_to_list o) in
+    ap (map outcome_of) pushed ∙ map-append outcome_of now (option_to_list o) in
     let left : unused new' ≡ minus (unused new) (chains_of (map outcome_of (option_to_list o))) =
-        ap unused moved ∙ unused-all_moved (chains_of (map outcome_of (option_to_list o))) OVERFLOW_LIST new (omega arith) in
+    ap unused moved ∙ unused-all_moved (chains_of (map outcome_of (option_to_list o))) OVERFLOW_LIST new (omega arith) in
     record {
-        kept = KeepsSource-trans was.kept kept;
-        read = both_told (λ all. IsWhole all geo → reads src + length (unused new) ≤ reads src0 + length (unused old) + 0)
-            (λ all. IsWhole all geo → reads src' + length (unused new') ≤ reads src + length (unused new) + 0)
-            (λ all. IsWhole all geo → reads src' + length (unused new') ≤ reads src0 + length (unused old) + 0)
-            (told src0) (told src) was.kept.told (λ all p q whole. omega (arith, p whole, q whole)) was.read read;
-        moves = Moves-append OVERFLOW_LIST old new new' (omega arith) was.moves moves;
-        len = len ∙ was.len;
-        more = was.more ++ option_to_list o;
-        all = pushed ∙ ap (λ (xs : List CellOutcome). xs ++ option_to_list o) was.all ∙ append_assoc before was.more (option_to_list o);
-        few = omega (arith, length-append was.more (option_to_list o), was.few, few_option o);
-        small = all_append _ was.more (option_to_list o) was.small (all_option _ o small);
-        table = moved
-            ∙ ap (λ (t : Table). all_moved (chains_of (map outcome_of (option_to_list o))) OVERFLOW_LIST t) was.table
-            ∙ sym (all_moved-append (chains_of (map outcome_of was.more)) (chains_of (map outcome_of (option_to_list o))) OVERFLOW_LIST old)
-            ∙ ap (λ (ps : List ℕ). all_moved ps OVERFLOW_LIST old) (sym joined);
-        rest = both_told (λ all. map outcome_of now ++ to_come all geo bytes shape page i marks (unused new)
-                ≡ map outcome_of before ++ outcomes_in (file_of all geo) bytes page shape (unused old))
-            (λ all. map outcome_of (option_to_list o)
-                ≡ outcome_at (file_of all geo) bytes page (has_payload shape.kind shape.leaf) i cell (unused new))
-            (λ all. map outcome_of next ++ to_come all geo bytes shape page (i + 1) after (unused new')
-                ≡ map outcome_of before ++ outcomes_in (file_of all geo) bytes page shape (unused old))
-            (told src0) (told src) was.kept.told
-            (λ all p q. ap (λ (xs : List Outcome). xs ++ to_come all geo bytes shape page (i + 1) after (unused new')) grown
-                ∙ rest_more (file_of all geo) bytes page (has_payload shape.kind shape.leaf) (cell_of bytes geo.usable geo.pages shape)
-                    shape.cells i marks after (unused new) (unused new') (map outcome_of now) (map outcome_of (option_to_list o))
-                    (map outcome_of before ++ outcomes_in (file_of all geo) bytes page shape (unused old)) lt marked
-                    (q ∙ ap (λ (c : Result CellView CellCause). outcome_at (file_of all geo) bytes page (has_payload shape.kind shape.leaf) i c (unused new)) named)
-                    left p)
-            was.rest value;
+      kept = KeepsSource-trans was.kept kept;
+      read = both_told (λ all. IsWhole all geo → reads src + length (unused new) ≤ reads src0 + length (unused old) + 0)
+          (λ all. IsWhole all geo → reads src' + length (unused new') ≤ reads src + length (unused new) + 0)
+          (λ all. IsWhole all geo → reads src' + length (unused new') ≤ reads src0 + length (unused old) + 0)
+          (told src0) (told src) was.kept.told (λ all p q whole. omega (arith, p whole, q whole)) was.read read;
+      moves = Moves-append OVERFLOW_LIST old new new' (omega arith) was.moves moves;
+      len = len ∙ was.len;
+      more = was.more ++ option_to_list o;
+      all = pushed ∙ ap (λ (xs : List CellOutcome). xs ++ option_to_list o) was.all ∙ append_assoc before was.more (option_to_list o);
+      few = omega (arith, length-append was.more (option_to_list o), was.few, few_option o);
+      small = all_append _ was.more (option_to_list o) was.small (all_option _ o small);
+      table = moved
+          ∙ ap (λ (t : Table). all_moved (chains_of (map outcome_of (option_to_list o))) OVERFLOW_LIST t) was.table
+          ∙ sym (all_moved-append (chains_of (map outcome_of was.more)) (chains_of (map outcome_of (option_to_list o))) OVERFLOW_LIST old)
+          ∙ ap (λ (ps : List ℕ). all_moved ps OVERFLOW_LIST old) (sym joined);
+      rest = both_told (λ all. map outcome_of now ++ to_come all geo bytes shape page i marks (unused new)
+          ≡ map outcome_of before ++ outcomes_in (file_of all geo) bytes page shape (unused old))
+          (λ all. map outcome_of (option_to_list o)
+          ≡ outcome_at (file_of all geo) bytes page (has_payload shape.kind shape.leaf) i cell (unused new))
+          (λ all. map outcome_of next ++ to_come all geo bytes shape page (i + 1) after (unused new')
+          ≡ map outcome_of before ++ outcomes_in (file_of all geo) bytes page shape (unused old))
+          (told src0) (told src) was.kept.told
+          (λ all p q. ap (λ (xs : List Outcome). xs ++ to_come all geo bytes shape page (i + 1) after (unused new')) grown
+          ∙ rest_more (file_of all geo) bytes page (has_payload shape.kind shape.leaf) (cell_of bytes geo.usable geo.pages shape)
+          shape.cells i marks after (unused new) (unused new') (map outcome_of now) (map outcome_of (option_to_list o))
+          (map outcome_of before ++ outcomes_in (file_of all geo) bytes page shape (unused old)) lt marked
+          (q ∙ ap (λ (c : Result CellView CellCause). outcome_at (file_of all geo) bytes page (has_payload shape.kind shape.leaf) i c (unused new)) named)
+          left p)
+          was.rest value;
     }
 
 pub going_value : {S : Type 0} {told attached : S → Option (List ℕ)} {faults reads : S → ℕ} {geo : Geometry} {bytes : List ℕ}
     {shape : PageShape} {page : ℕ} {src0 src : S} {old new : Table} {before now : List CellOutcome} {i : ℕ} {marks : List Bool}
     → Going told attached faults reads geo bytes shape page src0 src old new before now i marks → shape.cells ≤ i
     → IfSome (told src0) (λ all. map outcome_of now
-        ≡ map outcome_of before ++ outcomes_in (file_of all geo) bytes page shape (unused old))
+    ≡ map outcome_of before ++ outcomes_in (file_of all geo) bytes page shape (unused old))
 going_value {told = told} {geo = geo} {bytes} {shape} {page} {src0} {src} {old} {new} {before} {now} {i} {marks} was le =
     let none : marked_from (cell_of bytes geo.usable geo.pages shape) (shape.cells - i) i marks ≡ [] =
-        marked_end (cell_of bytes geo.usable geo.pages shape) shape.cells i marks le in
+    marked_end (cell_of bytes geo.usable geo.pages shape) shape.cells i marks le in
     one_told (λ all. map outcome_of now ++ to_come all geo bytes shape page i marks (unused new)
-            ≡ map outcome_of before ++ outcomes_in (file_of all geo) bytes page shape (unused old))
-        (λ all. map outcome_of now ≡ map outcome_of before ++ outcomes_in (file_of all geo) bytes page shape (unused old)) (told src0)
-        (λ all p. sym (append-nil (map outcome_of now))
-            ∙ ap (λ (vs : List Verdict). map outcome_of now ++ outcomes_from (file_of all geo) bytes page (has_payload shape.kind shape.leaf) i vs (unused new)) (sym none)
-            ∙ p)
-        was.rest
+    ≡ map outcome_of before ++ outcomes_in (file_of all geo) bytes page shape (unused old))
+    (λ all. map outcome_of now ≡ map outcome_of before ++ outcomes_in (file_of all geo) bytes page shape (unused old)) (told src0)
+    (λ all p. sym (append-nil (map outcome_of now))
+    ∙ ap (λ (vs : List Verdict). map outcome_of now ++ outcomes_from (file_of all geo) bytes page (has_payload shape.kind shape.leaf) i vs (unused new)) (sym none)
+    ∙ p)
+    was.rest
 
 pub going_used : {S : Type 0} {told attached : S → Option (List ℕ)} {faults reads : S → ℕ} {geo : Geometry} {bytes : List ℕ}
     {shape : PageShape} {page : ℕ} {src0 src : S} {old new : Table} {before now : List CellOutcome} {i : ℕ} {marks : List Bool}
@@ -206,13 +206,13 @@ pub going_pages : {S : Type 0} {told attached : S → Option (List ℕ)} {faults
     {shape : PageShape} {page : ℕ} {src0 src : S} {old new : Table} {before now : List CellOutcome} {i : ℕ} {marks : List Bool}
     → Going told attached faults reads geo bytes shape page src0 src old new before now i marks
     → old.pages ≡ geo.pages → new.pages ≡ geo.pages
-going_pages {old = old} {new} was same = Moves-pages OVERFLOW_LIST old new was.moves ∙ same
+going_pages was same = was.moves.same_pages ∙ same
 
 pub going_lists : {S : Type 0} {told attached : S → Option (List ℕ)} {faults reads : S → ℕ} {geo : Geometry} {bytes : List ℕ}
     {shape : PageShape} {page : ℕ} {src0 src : S} {old new : Table} {before now : List CellOutcome} {i : ℕ} {marks : List Bool}
     → Going told attached faults reads geo bytes shape page src0 src old new before now i marks
     → 7 ≤ length old.lists → 7 ≤ length new.lists
-going_lists {old = old} {new} was many = omega (arith, Moves-lists OVERFLOW_LIST old new was.moves, many)
+going_lists was many = omega (arith, was.moves.same_lists, many)
 
 -- what a call leaves that ends the loop
 pub going_moves : {S : Type 0} {told attached : S → Option (List ℕ)} {faults reads : S → ℕ} {geo : Geometry} {bytes : List ℕ}
@@ -227,6 +227,6 @@ pub going_reads : {S : Type 0} {told attached : S → Option (List ℕ)} {faults
     → ReadsEach (told src) geo new new' (reads src) later more → ReadsEach (told src0) geo old new' (reads src0) later more
 going_reads {told = told} {reads = reads} {geo = geo} {src0 = src0} {src} {old} {new} new' later more was read =
     both_told (λ all. IsWhole all geo → reads src + length (unused new) ≤ reads src0 + length (unused old) + 0)
-        (λ all. IsWhole all geo → later + length (unused new') ≤ reads src + length (unused new) + more)
-        (λ all. IsWhole all geo → later + length (unused new') ≤ reads src0 + length (unused old) + more)
-        (told src0) (told src) was.kept.told (λ all p q whole. omega (arith, p whole, q whole)) was.read read
+    (λ all. IsWhole all geo → later + length (unused new') ≤ reads src + length (unused new) + more)
+    (λ all. IsWhole all geo → later + length (unused new') ≤ reads src0 + length (unused old) + more)
+    (told src0) (told src) was.kept.told (λ all p q whole. omega (arith, p whole, q whole)) was.read read

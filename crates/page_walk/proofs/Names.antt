@@ -1,5 +1,5 @@
 -- The children of the cells that a loop has passed, and of those to come.
-use Rattle.std.proofs.Common.{append-nil, Some, None, true, ◌≡◌, ◌<◌, ◌≤◌, ℕ, zero, suc, ◌+◌, ◌-◌, Bool, false, List, [], ◌∷◌, ◌++◌, length, Option, refl, sym, ◌∙◌, ap, arith, append_assoc, replicate}
+use Rattle.std.proofs.Common.{append-nil, length-append, Some, None, true, ◌≡◌, ◌<◌, ◌≤◌, ℕ, zero, suc, ◌+◌, ◌-◌, Bool, false, List, [], ◌∷◌, ◌++◌, length, Option, refl, sym, ◌∙◌, ap, arith, append_assoc, replicate}
 use Rattle.std.proofs.lemmas.List.{length-replicate}
 use Rattle.std.specs.Prelude.{option_to_list, if◌then◌else◌, IfSome, Result}
 use Rattle.std.specs.List.{flat_map}
@@ -38,49 +38,53 @@ children_step Overlaps vs = refl
 -- the first cell to come, and the others
 pub marked_step : (cell : ℕ → Result CellView CellFault) (n i : ℕ) (marks : List Bool) → i < n
     → marked_from cell (n - i) i marks
-        ≡ marked_on (cell i) marks ∷ marked_from cell (n - (i + 1)) (i + 1) (marks_with (marked_on (cell i) marks) marks)
+    ≡ marked_on (cell i) marks ∷ marked_from cell (n - (i + 1)) (i + 1) (marks_with (marked_on (cell i) marks) marks)
 marked_step cell n i marks lt =
     let e : n - i ≡ suc (n - (i + 1)) = omega arith in rw e refl
 
 pub marked_end : (cell : ℕ → Result CellView CellFault) (n i : ℕ) (marks : List Bool) → n ≤ i → marked_from cell (n - i) i marks ≡ []
 marked_end cell n i marks le = let e : n - i ≡ 0 = omega arith in rw e refl
 
+few_option : (o : Option ℕ) → length (option_to_list o) ≤ 1
+few_option None = omega arith
+few_option (Some p) = omega arith
+
 pub naming_start : (page : List ℕ) (usable pages : ℕ) (shape : PageShape) (before : List ℕ) (marks : List Bool)
     → marks ≡ replicate usable false → Naming page usable pages shape before before 0 marks
 naming_start page usable pages shape before marks fresh = let all : shape.cells - 0 ≡ shape.cells = omega arith in record {
-    rest = ap (λ n. before ++ children_by (marked_from (cell_of page usable pages shape) n 0 marks)) all
-        ∙ ap (λ ms. before ++ children_by (marked_from (cell_of page usable pages shape) shape.cells 0 ms)) fresh
-        ∙ ap (λ vs. before ++ children_by vs) (page_marked page usable pages shape)
-        ∙ ap (λ xs. before ++ xs) (sym (kept_children 0 (verdicts page usable pages shape)));
-    few = omega arith;
-    len = ap length fresh ∙ length-replicate usable false;
+  rest = ap (λ n. before ++ children_by (marked_from (cell_of page usable pages shape) n 0 marks)) all
+      ∙ ap (λ ms. before ++ children_by (marked_from (cell_of page usable pages shape) shape.cells 0 ms)) fresh
+      ∙ ap (λ vs. before ++ children_by vs) (page_marked page usable pages shape)
+      ∙ ap (λ xs. before ++ xs) (sym (kept_children 0 (verdicts page usable pages shape)));
+  few = omega arith;
+  len = ap length fresh ∙ length-replicate usable false;
 }
 
 pub naming_more : (page : List ℕ) (usable pages : ℕ) (shape : PageShape) (before now next : List ℕ) (i : ℕ) (marks after : List Bool)
     (child : Option ℕ) → Naming page usable pages shape before now i marks → i < shape.cells
     → after ≡ marks_with (marked_on (cell_of page usable pages shape i) marks) marks → length after ≡ usable
     → child ≡ child_by (screened_as (marked_on (cell_of page usable pages shape i) marks))
-    → next ≡ now ++ option_to_list child → length next ≤ length now + 1
+    → next ≡ now ++ option_to_list child
     → Naming page usable pages shape before next (i + 1) after
-naming_more page usable pages shape before now next i marks after child was lt marked len named pushed most =
+naming_more page usable pages shape before now next i marks after child was lt marked len named pushed =
     let cell : ℕ → Result CellView CellFault = cell_of page usable pages shape in
     let v : Verdict = marked_on (cell_of page usable pages shape i) marks in
     let later : List Verdict = marked_from cell (shape.cells - (i + 1)) (i + 1) (marks_with v marks) in
     let passed : option_to_list (child_by (screened_as v)) ++ children_by later
-            ≡ children_by (marked_from cell (shape.cells - i) i marks) =
-        sym (children_step v later) ∙ ap children_by (sym (marked_step cell shape.cells i marks lt)) in
+    ≡ children_by (marked_from cell (shape.cells - i) i marks) =
+    sym (children_step v later) ∙ ap children_by (sym (marked_step cell shape.cells i marks lt)) in
     record {
-        rest = rw (pushed, named, marked) (append_assoc now (option_to_list (child_by (screened_as v))) (children_by later)
-            ∙ ap (λ xs. now ++ xs) passed ∙ was.rest);
-        few = omega (arith, was.few);
-        len = len;
+      rest = rw (pushed, named, marked) (append_assoc now (option_to_list (child_by (screened_as v))) (children_by later)
+          ∙ ap (λ xs. now ++ xs) passed ∙ was.rest);
+      few = omega (arith, was.few, ap length pushed, length-append now (option_to_list child), few_option child);
+      len = len;
     }
 
 pub naming_end : (page : List ℕ) (usable pages : ℕ) (shape : PageShape) (before now : List ℕ) (i : ℕ) (marks : List Bool)
     → Naming page usable pages shape before now i marks → shape.cells ≤ i → now ≡ before ++ children_in page usable pages shape
 naming_end page usable pages shape before now i marks was le =
     let none : children_by (marked_from (cell_of page usable pages shape) (shape.cells - i) i marks) ≡ [] =
-        ap children_by (marked_end (cell_of page usable pages shape) shape.cells i marks le) in
+    ap children_by (marked_end (cell_of page usable pages shape) shape.cells i marks le) in
     sym (append-nil now) ∙ ap (λ xs. now ++ xs) (sym none) ∙ was.rest
 
 -- a page that names no right-most page names none
@@ -104,8 +108,8 @@ pointers_interior f p shape right has some = ap (pointers_with f p) has ∙ by_l
     by_leaf true e = let none : right_of (page_at f p) shape ≡ None = rw e refl in cc
     by_leaf false e =
         let there : (if shape.leaf then [] else children_in (page_at f p) f.usable f.pages shape
-            ++ option_to_list (right_of (page_at f p) shape)) ≡ children_in (page_at f p) f.usable f.pages shape
-            ++ option_to_list (right_of (page_at f p) shape) = rw e refl in
+        ++ option_to_list (right_of (page_at f p) shape)) ≡ children_in (page_at f p) f.usable f.pages shape
+        ++ option_to_list (right_of (page_at f p) shape) = rw e refl in
         there ∙ ap (λ o. children_in (page_at f p) f.usable f.pages shape ++ option_to_list o) some
 
 -- the same over the bytes that a source tells, where it does; b1, b2, b3 are borrows of the page
@@ -131,7 +135,7 @@ told_interior (Some all) geo p shape bytes b1 b2 b3 old now right page e1 e2 e3 
     let there : shape_on f p ≡ Some shape = ap (λ b. shape_of b p geo.usable) (sym page ∙ sym e1) ∙ has in
     let last : right_of (page_at f p) shape ≡ Some right = ap (λ b. right_of b shape) (sym page ∙ sym e2) ∙ some in
     let same : children_in b3 geo.usable geo.pages shape ≡ children_in (page_at f p) geo.usable geo.pages shape =
-        ap (λ b. children_in b geo.usable geo.pages shape) (e3 ∙ page) in
+    ap (λ b. children_in b geo.usable geo.pages shape) (e3 ∙ page) in
     ap (λ xs. xs ++ right ∷ []) (pushed ∙ ap (λ xs. old ++ xs) same)
-        ∙ append_assoc old (children_in (page_at f p) geo.usable geo.pages shape) (right ∷ [])
-        ∙ ap (λ xs. old ++ xs) (sym (pointers_interior f p shape right there last))
+    ∙ append_assoc old (children_in (page_at f p) geo.usable geo.pages shape) (right ∷ [])
+    ∙ ap (λ xs. old ++ xs) (sym (pointers_interior f p shape right there last))

@@ -22,25 +22,37 @@ either false = inr refl
 value_short : (t : ℕ) (body : List ℕ) → value_len (value_of t body) ≤ length body
 unfolding value_of
 value_short t body = elim (either (t == 0)) [
-    inl a ↦ rw a (omega arith)
+  | inl a ↦ rw a (omega arith)
   | inr a ↦ rw a (elim (either (nat_lt t 7)) [
-      inl b ↦ rw b (omega arith)
+    | inl b ↦ rw b (omega arith)
     | inr b ↦ rw b (elim (either (t == 7)) [
-        inl d ↦ rw d (omega arith)
+      | inl d ↦ rw d (omega arith)
       | inr d ↦ rw d (elim (either (t == 8)) [
-          inl e ↦ rw e (omega arith)
+        | inl e ↦ rw e (omega arith)
         | inr e ↦ rw e (elim (either (t == 9)) [
-            inl f ↦ rw f (omega arith)
+          | inl f ↦ rw f (omega arith)
           | inr f ↦ rw f (elim (either (t % 2 == 0)) [
-              inl g ↦ rw g (omega arith)
-            | inr g ↦ rw g (omega arith) ]) ]) ]) ]) ]) ]
+            | inl g ↦ rw g (omega arith)
+            | inr g ↦ rw g (omega arith)
+          ])
+        ])
+      ])
+    ])
+  ])
+]
 
 values_short : (ts : List ℕ) (bodies : List ℕ) → sum_by value_len (values_of ts bodies) ≤ bodies_len ts
 values_short [] bodies = omega arith
 values_short (t ∷ ts) bodies =
-    omega (arith, value_short t (take (body_len t) bodies), length-take (body_len t) bodies,
-        values_short ts (drop (body_len t) bodies), sum_by-cons value_len (value_of t (take (body_len t) bodies))
-            (values_of ts (drop (body_len t) bodies)), sum_by-cons body_len t ts)
+    omega (
+      arith,
+      value_short t (take (body_len t) bodies),
+      length-take (body_len t) bodies,
+      values_short ts (drop (body_len t) bodies),
+      sum_by-cons value_len (value_of t (take (body_len t) bodies))
+          (values_of ts (drop (body_len t) bodies)),
+      sum_by-cons body_len t ts,
+    )
 
 values_many : (ts : List ℕ) (bodies : List ℕ) → length (values_of ts bodies) ≡ length ts
 values_many [] bodies = refl
@@ -54,13 +66,16 @@ record IsChecked (payload : List ℕ) (h : Header) : Type 0 where
 checked_is : (payload : List ℕ) (h k : Header) → checked payload h ≡ Ok k → (h ≡ k) × IsChecked payload h
 unfolding checked
 checked_is payload h k e = elim (either (nat_lt 1996 (length h.types))) [
-    inl a ↦ let bad = rw a at e in cc
+  | inl a ↦ let bad = rw a at e in cc
   | inr a ↦ let e2 = rw a at e in elim (either (list_any is_reserved h.types)) [
-      inl b ↦ let bad = rw b at e2 in cc
+    | inl b ↦ let bad = rw b at e2 in cc
     | inr b ↦ let e3 = rw b at e2 in elim (either (nat_lt (length payload) (h.size + bodies_len h.types))) [
-        inl d ↦ let bad = rw d at e3 in cc
+      | inl d ↦ let bad = rw d at e3 in cc
       | inr d ↦ let last = rw d at e3 in
-          (cc, record { few = grind (arith, nat_tests); there = grind (arith, nat_tests) }) ] ] ]
+          (cc, record { few = grind (arith, nat_tests); there = grind (arith, nat_tests) })
+    ]
+  ]
+]
 
 -- the bounds of a record's values
 pub record IsShort (payload : List ℕ) (vs : List Value) : Type 0 where
@@ -81,9 +96,10 @@ record_short payload vs e = by_header (header_at payload) e
         let few : length h.types ≤ 1996 = two.1.few in
         let there : h.size + bodies_len h.types ≤ length payload = two.1.there in
         subst (λ (ws : List Value). IsShort payload ws) same (record {
-            few = omega (arith, values_many k.types (drop k.size payload));
-            short = omega (arith, values_short k.types (drop k.size payload));
+          few = omega (arith, values_many k.types (drop k.size payload));
+          short = omega (arith, values_short k.types (drop k.size payload));
         })
+
     by_header : (r : Result Header RecordFault)
         → and_then (and_then r (checked payload)) (λ h. Ok (values_at payload h)) ≡ Ok vs → IsShort payload vs
     by_header (Err fault) e = absurd (cc)
@@ -105,11 +121,11 @@ pub entry_small : (usable pages page i n total need : ℕ) (rowid : Option ℤ) 
     → HasOverflow overflow n total → need ≡ total - n → total ≤ pages * usable → IsSmall usable pages page o
 entry_small usable pages page i n total need rowid overflow old new none chain local payload bytes o is seen took empty same len has e most =
     let are : ArePages old.pages chain = subst (λ (ps : List ℕ). ArePages old.pages ps)
-        (sym (took.pages_are ∙ ap (λ ps. ps ++ took.taken) empty)) took.inside in
+    (sym (took.pages_are ∙ ap (λ ps. ps ++ took.taken) empty)) took.inside in
     let part : n ≤ total = most_local overflow has in
     subst (λ (x : Outcome). IsSmall usable pages page x) (sym is)
-        (read_small usable pages page i rowid chain bytes (subst (λ (k : ℕ). ArePages k chain) same are)
-            (omega (arith, ap length seen, took.room, len, e, most, part)))
+    (read_small usable pages page i rowid chain bytes (subst (λ (k : ℕ). ArePages k chain) same are)
+    (omega (arith, ap length seen, took.room, len, e, most, part)))
   where
     most_local : (overflow : Option ℕ) → HasOverflow overflow n total → n ≤ total
     most_local None h = omega (arith, h)

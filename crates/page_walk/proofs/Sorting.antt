@@ -31,13 +31,13 @@ pub sorting_start : (all : List CellOutcome) (before : List TakenCell) (notes : 
     → Sorting all before before notes left len
 sorting_start all before notes left len e same few none =
     subst (λ (n : PageNotes). Sorting all before before n left len) (sym none) (record {
-        done = [];
-        is = sym (append-nil before);
-        parts = ap taken_in e;
-        many = omega (arith, ap (λ (os : List CellOutcome). length (causes_of (map outcome_of os))) e);
-        first = ap (λ (os : List CellOutcome). slice_get (causes_of (map outcome_of os)) 0) e;
-        small = omega (arith, ap length e, few);
-        same = same;
+      done = [];
+      is = sym (append-nil before);
+      parts = ap taken_in e;
+      many = omega (arith, ap (λ (os : List CellOutcome). length (causes_of (map outcome_of os))) e);
+      first = ap (λ (os : List CellOutcome). slice_get (causes_of (map outcome_of os)) 0) e;
+      small = omega (arith, ap length e, few);
+      same = same;
     })
 
 first_stays : (o : Option (ℕ × CellCause)) (c : ℕ × CellCause) (cs : List (ℕ × CellCause)) → Some (unwrap_or o c) ≡ first_of o (c ∷ cs)
@@ -49,22 +49,22 @@ one_sorted : (all : List CellOutcome) (before now : List TakenCell) (notes : Pag
     (len less : ℕ) → Sorting all before now notes (x ∷ rest) len → less + 1 ≡ len
     → Sorting all before (now ++ taken_in (x ∷ [])) (notes_with notes (outcome_of x)) rest less
 one_sorted all before now notes (outcomes.Taken t) rest len less was l = record {
-    done = was.done ++ t ∷ [];
-    is = ap (λ (xs : List TakenCell). xs ++ t ∷ []) was.is ∙ append_assoc before was.done (t ∷ []);
-    parts = append_assoc was.done (t ∷ []) (taken_in rest) ∙ was.parts;
-    many = was.many;
-    first = was.first;
-    small = omega (arith, was.small);
-    same = omega (arith, was.same, l);
+  done = was.done ++ t ∷ [];
+  is = ap (λ (xs : List TakenCell). xs ++ t ∷ []) was.is ∙ append_assoc before was.done (t ∷ []);
+  parts = append_assoc was.done (t ∷ []) (taken_in rest) ∙ was.parts;
+  many = was.many;
+  first = was.first;
+  small = omega (arith, was.small);
+  same = omega (arith, was.same, l);
 }
 one_sorted all before now notes (outcomes.Unread cell cause chain) rest len less was l = record {
-    done = was.done;
-    is = append-nil now ∙ was.is;
-    parts = was.parts;
-    many = omega (arith, was.many);
-    first = first_stays notes.first (cell, cause) (causes_of (map outcome_of rest)) ∙ was.first;
-    small = omega (arith, was.small);
-    same = omega (arith, was.same, l);
+  done = was.done;
+  is = append-nil now ∙ was.is;
+  parts = was.parts;
+  many = omega (arith, was.many);
+  first = first_stays notes.first (cell, cause) (causes_of (map outcome_of rest)) ∙ was.first;
+  small = omega (arith, was.small);
+  same = omega (arith, was.same, l);
 }
 
 pub sorting_more : (all : List CellOutcome) (before now next : List TakenCell) (notes after : PageNotes) (x : CellOutcome)
@@ -73,10 +73,10 @@ pub sorting_more : (all : List CellOutcome) (before now next : List TakenCell) (
     → Sorting all before next after rest less
 sorting_more all before now next notes after x left rest len less was e l pushed noted =
     let at : Sorting all before now notes (x ∷ rest) len =
-        subst (λ (os : List CellOutcome). Sorting all before now notes os len) e was in
+    subst (λ (os : List CellOutcome). Sorting all before now notes os len) e was in
     subst (λ (xs : List TakenCell). Sorting all before xs after rest less) (sym pushed)
-        (subst (λ (n : PageNotes). Sorting all before (now ++ taken_in (x ∷ [])) n rest less) (sym noted)
-            (one_sorted all before now notes x rest len less at l))
+    (subst (λ (n : PageNotes). Sorting all before (now ++ taken_in (x ∷ [])) n rest less) (sym noted)
+    (one_sorted all before now notes x rest len less at l))
 
 first_alone : (o : Option (ℕ × CellCause)) → o ≡ first_of o []
 first_alone None = refl
@@ -86,10 +86,11 @@ pub sorting_done : (all : List CellOutcome) (before now : List TakenCell) (notes
     → Sorting all before now notes left len → len ≡ 0 → (now ≡ before ++ taken_in all) × (notes ≡ notes_of (map outcome_of all))
 sorting_done all before now notes [] len was none =
     let make : ℕ → Option (ℕ × CellCause) → PageNotes = λ n o. record { unread = n; first = o } in
-    let many : notes.unread ≡ length (causes_of (map outcome_of all)) = omega (arith, was.many) in
-    (was.is ∙ ap (λ (xs : List TakenCell). before ++ xs) (sym (append-nil was.done) ∙ was.parts),
-        ap (λ (n : ℕ). make n notes.first) many
-            ∙ ap (make (length (causes_of (map outcome_of all)))) (first_alone notes.first ∙ was.first))
+    let many : notes.unread ≡ length (causes_of (map outcome_of all)) = omega (arith, was.many) in (
+      was.is ∙ ap (λ (xs : List TakenCell). before ++ xs) (sym (append-nil was.done) ∙ was.parts),
+      ap (λ (n : ℕ). make n notes.first) many
+          ∙ ap (make (length (causes_of (map outcome_of all)))) (first_alone notes.first ∙ was.first),
+    )
 sorting_done all before now notes (x ∷ left) len was none = absurd (omega (arith, was.same, none))
 
 pub sorting_front : (all : List CellOutcome) (before now : List TakenCell) (notes : PageNotes) (left : List CellOutcome) (len : ℕ)
@@ -124,13 +125,13 @@ adds_rows usable pages page none os old new empty adds gains =
     let same : os ≡ adds.more = adds.all ∙ ap (λ (xs : List CellOutcome). xs ++ adds.more) empty in
     let parts : taken_in adds.more ≡ gains.front ++ gains.rest = ap taken_in (sym same) ∙ gains.parts in
     let all : AllByRecursion (λ t. IsSmallRow usable pages page (row_of t)) (gains.front ++ gains.rest) =
-        subst (λ (ts : List TakenCell). AllByRecursion (λ t. IsSmallRow usable pages page (row_of t)) ts) parts
-            (small_taken usable pages page adds.more adds.small) in
+    subst (λ (ts : List TakenCell). AllByRecursion (λ t. IsSmallRow usable pages page (row_of t)) ts) parts
+    (small_taken usable pages page adds.more adds.small) in
     record {
-        more = gains.front;
-        all = gains.all;
-        few = omega (arith, adds.few, few_taken adds.more, ap length parts, length-append gains.front gains.rest);
-        small = all_front (λ t. IsSmallRow usable pages page (row_of t)) gains.front gains.rest all;
+      more = gains.front;
+      all = gains.all;
+      few = omega (arith, adds.few, few_taken adds.more, ap length parts, length-append gains.front gains.rest);
+      small = all_front (λ t. IsSmallRow usable pages page (row_of t)) gains.front gains.rest all;
     }
 
 -- the rows that were appended, where the source tells its bytes
@@ -140,6 +141,6 @@ pub rows_told : (o : Option (List ℕ)) (outs : List ℕ → List Outcome) (none
 rows_told None outs none os old new empty value rows = tt
 rows_told (Some all) outs none os old new empty value rows =
     let same : map outcome_of os ≡ outs all =
-        value ∙ ap (λ (xs : List CellOutcome). map outcome_of xs ++ outs all) empty in
+    value ∙ ap (λ (xs : List CellOutcome). map outcome_of xs ++ outs all) empty in
     ap (map row_of) rows ∙ map-append row_of old (taken_in os)
-        ∙ ap (λ (rs : List Row). map row_of old ++ rs) (rows_seen os ∙ ap rows_of same)
+    ∙ ap (λ (rs : List Row). map row_of old ++ rs) (rows_seen os ∙ ap rows_of same)

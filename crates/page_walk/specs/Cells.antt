@@ -97,8 +97,8 @@ abbrev pub outcomes_from : File → List ℕ → ℕ → Bool → ℕ → List V
 outcomes_from f page p payload i [] unused = []
 outcomes_from f page p payload i (v ∷ rest) unused =
     outcome_at f page p payload i (screened_as v) unused
-        ++ outcomes_from f page p payload (i + 1) rest
-            (minus unused (chains_of (outcome_at f page p payload i (screened_as v) unused)))
+    ++ outcomes_from f page p payload (i + 1) rest
+    (minus unused (chains_of (outcome_at f page p payload i (screened_as v) unused)))
 
 -- the cells of page p, where it has this shape
 unfoldable pub outcomes_in : File → List ℕ → ℕ → PageShape → List ℕ → List Outcome

@@ -1,5 +1,6 @@
 pub mod Bounds
 pub mod Cells
+pub mod Evidence
 pub mod Page
 pub mod Pointers
 pub mod Rows

@@ -1,9 +1,9 @@
 //! Why a cell is not read.
-use cell_reader::CellFault;
-use thiserror::Error;
-
 ghost use Rattle.std.specs.Prelude.{◌≡◌};
 ghost use Rattle.page_walk.specs.Page.{cause_of};
+
+use cell_reader::CellFault;
+use thiserror::Error;
 
 /// Why a cell is not read: the first of these, in this order, that holds but for `Cut` and `Length`,
 /// of which `Length` comes first.

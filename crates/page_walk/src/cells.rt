@@ -1,16 +1,6 @@
 //! The cells of a page, at their turns.
-use cell_reader::{Accepted, PageShape, shape};
-use page_access::{Geometry, ReadFault, Source};
-use page_lists::PageTable;
-use std::alloc::Global;
-
-use crate::entries::take_cell;
-use crate::outcomes::{CellOutcome, Place};
-use crate::pages::load_page;
-use crate::pushes::push_some;
-use crate::screens::screen;
-
 ghost use Rattle.std.specs.Prelude.{◌≡◌, ◌≤◌, ◌+◌, ◌++◌, length, map, IfSome, OnOk, Some, is_ok, if◌then◌else◌};
+ghost use Rattle.std.specs.List.{AllByRecursion};
 ghost use Rattle.page_access.specs.Files.{file_of};
 ghost use Rattle.page_access.specs.Outside.{HasCauseOf, KeepsSource};
 ghost use Rattle.page_access.specs.declared.outside.ReadFault.TheVariants as faults;
@@ -19,7 +9,19 @@ ghost use Rattle.cell_reader.specs.Inside.{HasArray};
 ghost use Rattle.cell_reader.specs.Shape.{shape_at};
 ghost use Rattle.page_walk.specs.Bounds.{Adds, Uses};
 ghost use Rattle.page_walk.specs.Cells.{outcome_of, outcomes_in, outcomes_on};
+ghost use Rattle.page_walk.specs.Evidence.{Evidence};
+ghost use Rattle.page_walk.specs.Rows.{rows_of};
 ghost use Rattle.page_walk.specs.Turns.{ReadsEach};
+
+use crate::entries::take_cell;
+use crate::outcomes::{CellOutcome, Place};
+use crate::pages::load_page;
+use crate::pushes::push_some;
+use crate::screens::screen;
+use cell_reader::{Accepted, PageShape, shape};
+use page_access::{Geometry, ReadFault, Source};
+use page_lists::PageTable;
+use std::alloc::Global;
 
 // Appends what becomes of each cell of a page with this shape, in cell order.
 fn add_cells<S: Source>(
@@ -39,7 +41,7 @@ fn add_cells<S: Source>(
     requires array { HasArray geo.now.usable shape.now }
     ensures value { OnOk result (IfSome (S.bytes src.old)
         (λ all. map outcome_of to.new.items ≡ map outcome_of to.old.items
-          ++ outcomes_in (file_of all geo.now) bytes.now page shape.now (unused table.old))) }
+        ++ outcomes_in (file_of all geo.now) bytes.now page shape.now (unused table.old))) }
     ensures used { OnOk result (Uses table.old table.new to.old.items to.new.items) }
     ensures cause { HasCauseOf faults.Source (S.faults src.old) (S.faults src.new) result }
     ensures kept { KeepsSource S.bytes S.attached S.faults S.reads src.old src.new }
@@ -75,7 +77,10 @@ pub fn cells_of<S: Source>(
     requires lists { 7 ≤ length table.old.lists }
     ensures value { OnOk result (IfSome (S.bytes src.old)
         (λ all. map outcome_of to.new.items ≡ map outcome_of to.old.items
-          ++ outcomes_on (file_of all geo.now) page (unused table.old))) }
+        ++ outcomes_on (file_of all geo.now) page (unused table.old))) }
+    ensures evidence { OnOk result (IfSome (S.bytes src.old)
+        (λ all. AllByRecursion (Evidence (file_of all geo.now))
+        (rows_of (outcomes_on (file_of all geo.now) page (unused table.old))))) }
     ensures used { OnOk result (Uses table.old table.new to.old.items to.new.items) }
     ensures cause { HasCauseOf faults.Source (S.faults src.old) (S.faults src.new) result }
     ensures kept { KeepsSource S.bytes S.attached S.faults S.reads src.old src.new }
@@ -84,6 +89,8 @@ pub fn cells_of<S: Source>(
     ensures reads { ReadsEach (S.bytes src.old) geo.now table.old table.new
         (S.reads src.old) (S.reads src.new) (if is_ok result then 1 else 2) }
 {
+    // tells that the table is a partition
+    let _pages = table.pages();
     let bytes = load_page(alloc, src, geo, page)?;
     let Some(shape) = shape(&bytes, page, geo) else {
         return Ok(());

@@ -1,14 +1,4 @@
 //! The payload and the record of an entry.
-use cell_reader::{CellView, Kind, PageShape};
-use overflow_chain::{ChainEnd, read_chain};
-use page_access::{Geometry, ReadFault, Source};
-use page_lists::PageTable;
-use record_core::{RecordFault, read_record};
-use std::alloc::Global;
-
-use crate::CellCause;
-use crate::outcomes::{CellOutcome, Place, TakenCell};
-
 ghost use Rattle.std.specs.Prelude.{◌≡◌, ◌≤◌, ◌+◌, ◌*◌, ◌-◌, length, map, IfOk, IfSome, IsErrOf, OnOk, is_ok, option_to_list, if◌then◌else◌};
 ghost use Rattle.page_access.specs.Files.{file_of};
 ghost use Rattle.page_access.specs.Outside.{HasCauseOf, KeepsSource};
@@ -20,6 +10,15 @@ ghost use Rattle.overflow_chain.specs.Turn.{Takes};
 ghost use Rattle.page_walk.specs.Bounds.{IsSmall};
 ghost use Rattle.page_walk.specs.Cells.{chain_of, chains_of, entry_at, missing, outcome_at, outcome_of, read_as};
 ghost use Rattle.page_walk.specs.Turns.{ReadsEach, RestTaken};
+
+use crate::CellCause;
+use crate::outcomes::{CellOutcome, Place, TakenCell};
+use cell_reader::{CellView, Kind, PageShape};
+use overflow_chain::{ChainEnd, read_chain};
+use page_access::{Geometry, ReadFault, Source};
+use page_lists::PageTable;
+use record_core::{RecordFault, read_record};
+use std::alloc::Global;
 
 // Whether the cells of a page have a payload.
 fn cells_have_payload(shape: &PageShape) -> bool
@@ -44,12 +43,11 @@ fn read_rest<S: Source>(
     requires same_pages { table.old.pages ≡ geo.now.pages }
     requires lists { 7 ≤ length table.old.lists }
     requires local { view.now.local_start ≤ view.now.local_end }
-    requires overflow
-        { HasOverflow view.now.overflow (view.now.local_end - view.now.local_start) view.now.total }
+    requires overflow { HasOverflow view.now.overflow (view.now.local_end - view.now.local_start) view.now.total }
     requires most { view.now.total ≤ geo.now.pages * geo.now.usable }
     ensures value { IfOk result (λ end. IfSome (S.bytes src.old)
         (λ all. RestTaken (file_of all geo.now) view.now table.old table.new
-          chain.old.items chain.new.items payload.old.items payload.new.items end)) }
+        chain.old.items chain.new.items payload.old.items payload.new.items end)) }
     ensures taken { OnOk result (Takes (missing view.now) table.old table.new
         chain.old.items chain.new.items payload.old.items payload.new.items) }
     ensures cause { HasCauseOf faults.Source (S.faults src.old) (S.faults src.new) result }
@@ -66,7 +64,13 @@ fn read_rest<S: Source>(
 }
 
 // What becomes of a cell whose payload is whole.
-fn judge(alloc: Global, place: Place, rowid: Option<i64>, chain: Vec<u32>, payload: &[u8]) -> Result<CellOutcome, ReadFault>
+fn judge(
+    alloc: Global,
+    place: Place,
+    rowid: Option<i64>,
+    chain: Vec<u32>,
+    payload: &[u8],
+) -> Result<CellOutcome, ReadFault>
     ensures value { IfOk result
         (λ o. outcome_of o ≡ read_as place.page place.cell rowid chain.items (record_of payload.now)) }
     ensures memory { IsErrOf result faults.Source → ⊥ }
@@ -102,12 +106,11 @@ fn take_entry<S: Source>(
     requires lists { 7 ≤ length table.old.lists }
     requires local { view.now.local_start ≤ view.now.local_end }
     requires within { view.now.local_end ≤ length page.now }
-    requires overflow
-        { HasOverflow view.now.overflow (view.now.local_end - view.now.local_start) view.now.total }
+    requires overflow { HasOverflow view.now.overflow (view.now.local_end - view.now.local_start) view.now.total }
     requires most { view.now.total ≤ geo.now.pages * geo.now.usable }
     ensures value { IfOk result (λ o. IfSome (S.bytes src.old)
         (λ all. outcome_of o ≡ entry_at (file_of all geo.now) page.now place.page place.cell view.now
-          (unused table.old))) }
+        (unused table.old))) }
     ensures moved { IfOk result (λ o. table.new ≡ all_moved (chain_of (outcome_of o)) 4 table.old) }
     ensures small { IfOk result (λ o. IsSmall geo.now.usable geo.now.pages place.page (outcome_of o)) }
     ensures cause { HasCauseOf faults.Source (S.faults src.old) (S.faults src.new) result }
@@ -147,7 +150,7 @@ pub fn take_cell<S: Source>(
     requires inside { IfOk cell (λ v. IsInside geo.now.usable geo.now.pages shape.now v) }
     ensures value { IfOk result (λ o. IfSome (S.bytes src.old)
         (λ all. map outcome_of (option_to_list o) ≡ outcome_at (file_of all geo.now) page.now place.page
-          (has_payload shape.now.kind shape.now.leaf) place.cell cell (unused table.old))) }
+        (has_payload shape.now.kind shape.now.leaf) place.cell cell (unused table.old))) }
     ensures moved { IfOk result
         (λ o. table.new ≡ all_moved (chains_of (map outcome_of (option_to_list o))) 4 table.old) }
     ensures small { IfOk result

@@ -17,3 +17,6 @@ pub use cells::cells_of;
 pub use named::pointers;
 pub use outcomes::{CellOutcome, Place, TakenCell};
 pub use rows::{PageNotes, read_cells};
+
+#[cfg(test)]
+mod tests;

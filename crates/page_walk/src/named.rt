@@ -1,17 +1,17 @@
 //! The pages that a page names.
-use cell_reader::{Accepted, CellView, PageShape, right_child, shape};
-use page_access::{Geometry, ReadFault, Source};
-use std::alloc::{AllocError, Global};
-
-use crate::causes::CellCause;
-use crate::pages::load_page;
-use crate::screens::screen;
-
-ghost use Rattle.std.specs.Prelude.{◌≡◌, ◌≤◌, ◌+◌, ◌*◌, ◌/◌, ◌++◌, length, IfOk, IfSome, OnOk, Some, option_to_list};
+ghost use Rattle.std.specs.Prelude.{◌≡◌, ◌≤◌, ◌+◌, ◌*◌, ◌/◌, ◌++◌, length, IfOk, IfSome, OnOk, Some};
 ghost use Rattle.cell_reader.specs.Shape.{shape_at};
 ghost use Rattle.page_access.specs.Files.{IsWhole, file_of};
 ghost use Rattle.page_access.specs.Outside.{HasCauseOf, KeepsSource};
 ghost use Rattle.page_walk.specs.Pointers.{child_by, children_in, pointers_on};
+
+use crate::causes::CellCause;
+use crate::pages::load_page;
+use crate::pushes::push_some;
+use crate::screens::screen;
+use cell_reader::{Accepted, CellView, PageShape, right_child, shape};
+use page_access::{Geometry, ReadFault, Source};
+use std::alloc::{AllocError, Global};
 
 // The child that a cell names, where it is accepted.
 fn accepted_child(cell: Result<CellView, CellCause>) -> Option<u32>
@@ -23,19 +23,14 @@ fn accepted_child(cell: Result<CellView, CellCause>) -> Option<u32>
     }
 }
 
-// Appends the page number, where there is one.
-fn push_some(to: &mut Vec<u32>, page: Option<u32>) -> Result<(), AllocError>
-    ensures items { OnOk result (to.new.items ≡ to.old.items ++ option_to_list page) }
-    ensures bound { length to.new.items ≤ length to.old.items + 1 }
-{
-    if let Some(page) = page {
-        to.push(page)?;
-    }
-    Ok(())
-}
-
 // Appends the child of each accepted cell of the page, in cell order.
-fn push_children(alloc: Global, page: &[u8], shape: &PageShape, geo: &Geometry, to: &mut Vec<u32>) -> Result<(), AllocError>
+fn push_children(
+    alloc: Global,
+    page: &[u8],
+    shape: &PageShape,
+    geo: &Geometry,
+    to: &mut Vec<u32>,
+) -> Result<(), AllocError>
     requires whole { geo.now.usable ≤ length page.now }
     requires of_page { shape_at page.now shape.now.head geo.now.usable ≡ Some shape.now }
     ensures value { OnOk result
@@ -52,7 +47,13 @@ fn push_children(alloc: Global, page: &[u8], shape: &PageShape, geo: &Geometry, 
 
 /// Appends the pages that an interior page names, whatever they are: the child of each accepted cell
 /// in cell order, and then the right-most pointer. A leaf and a page without a shape name none.
-pub fn pointers<S: Source>(alloc: Global, src: &mut S, geo: &Geometry, page: u32, to: &mut Vec<u32>) -> Result<(), ReadFault>
+pub fn pointers<S: Source>(
+    alloc: Global,
+    src: &mut S,
+    geo: &Geometry,
+    page: u32,
+    to: &mut Vec<u32>,
+) -> Result<(), ReadFault>
     requires page_least { 1 ≤ page }
     requires page_most { page ≤ geo.now.pages }
     ensures value { OnOk result (IfSome (S.bytes src.old)

@@ -1,7 +1,6 @@
 //! What becomes of a cell.
-use record_core::Value;
-
 use crate::CellCause;
+use record_core::Value;
 
 /// A cell of a file: its page, counted from 1, and its number there, counted from 0.
 #[derive(Clone, Copy, Debug, PartialEq, Eq)]

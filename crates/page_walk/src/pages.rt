@@ -1,14 +1,19 @@
 //! A page in memory.
-use page_access::{Geometry, ReadFault, Source, load};
-use std::alloc::Global;
-
 ghost use Rattle.std.specs.Prelude.{◌≡◌, ◌≤◌, ◌+◌, ◌*◌, length, IfOk, IfSome};
 ghost use Rattle.page_access.specs.Files.{IsWhole, file_of};
 ghost use Rattle.page_access.specs.Outside.{HasCauseOf, KeepsSource};
 ghost use Rattle.page_access.specs.Pages.{page_at};
 
+use page_access::{Geometry, ReadFault, Source, load};
+use std::alloc::Global;
+
 // The bytes of page `page`, counted from 1.
-pub fn load_page<S: Source>(alloc: Global, src: &mut S, geo: &Geometry, page: u32) -> Result<Vec<u8>, ReadFault>
+pub fn load_page<S: Source>(
+    alloc: Global,
+    src: &mut S,
+    geo: &Geometry,
+    page: u32,
+) -> Result<Vec<u8>, ReadFault>
     requires page_least { 1 ≤ page }
     requires page_most { page ≤ geo.now.pages }
     ensures page { IfOk result (λ v. IfSome (S.bytes src.old) (λ all. v.items ≡ page_at (file_of all geo.now) page)) }

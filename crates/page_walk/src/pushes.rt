@@ -1,7 +1,7 @@
 //! Appending what may not be there.
-use std::alloc::AllocError;
-
 ghost use Rattle.std.specs.Prelude.{◌≡◌, ◌++◌, OnErr, OnOk, option_to_list};
+
+use std::alloc::AllocError;
 
 // Appends the item, where there is one.
 pub fn push_some<T: Drop>(to: &mut Vec<T>, item: Option<T>) -> Result<(), AllocError>

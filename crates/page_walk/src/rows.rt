@@ -1,21 +1,22 @@
 //! The readable cells of a page.
-use page_access::{Geometry, ReadFault, Source};
-use page_lists::PageTable;
-use std::alloc::{AllocError, Global};
-
-use crate::CellCause;
-use crate::cells::cells_of;
-use crate::outcomes::{CellOutcome, TakenCell};
-
 ghost use Rattle.std.specs.Prelude.{◌≡◌, ◌≤◌, ◌<◌, ◌+◌, ◌^◌, [], ◌∷◌, ◌++◌, length, map, IfOk, IfSome, OnErr, OnOk, is_ok, if◌then◌else◌};
+ghost use Rattle.std.specs.List.{AllByRecursion};
 ghost use Rattle.page_access.specs.Files.{file_of};
 ghost use Rattle.page_access.specs.Outside.{HasCauseOf, KeepsSource};
 ghost use Rattle.page_access.specs.declared.outside.ReadFault.TheVariants as faults;
 ghost use Rattle.page_lists.specs.Table.{Moves, unused};
 ghost use Rattle.page_walk.specs.Bounds.{AddsRows};
 ghost use Rattle.page_walk.specs.Cells.{outcome_of, outcomes_on, row_of};
+ghost use Rattle.page_walk.specs.Evidence.{Evidence};
 ghost use Rattle.page_walk.specs.Rows.{GainsFront, notes_of, notes_with, rows_of, taken_in};
 ghost use Rattle.page_walk.specs.Turns.{ReadsEach};
+
+use crate::CellCause;
+use crate::cells::cells_of;
+use crate::outcomes::{CellOutcome, TakenCell};
+use page_access::{Geometry, ReadFault, Source};
+use page_lists::PageTable;
+use std::alloc::{AllocError, Global};
 
 /// What is noted of the cells of a page that are not read.
 #[derive(Clone, Copy, Debug, PartialEq, Eq)]
@@ -27,7 +28,11 @@ pub struct PageNotes {
 }
 
 // Appends the cell where it is read, else notes it.
-fn sort_one(outcome: CellOutcome, notes: PageNotes, to: &mut Vec<TakenCell>) -> Result<PageNotes, AllocError>
+fn sort_one(
+    outcome: CellOutcome,
+    notes: PageNotes,
+    to: &mut Vec<TakenCell>,
+) -> Result<PageNotes, AllocError>
     requires { notes.unread + 1 < 2 ^ 32 }
     ensures rows { OnOk result (to.new.items ≡ to.old.items ++ taken_in (outcome ∷ [])) }
     ensures notes { IfOk result (λ n. n ≡ notes_with notes (outcome_of outcome)) }
@@ -80,7 +85,10 @@ pub fn read_cells<S: Source>(
     requires lists { 7 ≤ length table.old.lists }
     ensures rows { OnOk result (IfSome (S.bytes src.old)
         (λ all. map row_of to.new.items ≡ map row_of to.old.items
-          ++ rows_of (outcomes_on (file_of all geo.now) page (unused table.old)))) }
+        ++ rows_of (outcomes_on (file_of all geo.now) page (unused table.old)))) }
+    ensures evidence { OnOk result (IfSome (S.bytes src.old)
+        (λ all. AllByRecursion (Evidence (file_of all geo.now))
+        (rows_of (outcomes_on (file_of all geo.now) page (unused table.old))))) }
     ensures notes { IfOk result (λ n. IfSome (S.bytes src.old)
         (λ all. n ≡ notes_of (outcomes_on (file_of all geo.now) page (unused table.old)))) }
     ensures cause { HasCauseOf faults.Source (S.faults src.old) (S.faults src.new) result }

@@ -1,9 +1,4 @@
 //! Which cells of a page are accepted.
-use cell_reader::{Accepted, CellView, PageShape, cell};
-use page_access::Geometry;
-
-use crate::causes::{CellCause, cause};
-
 ghost use Rattle.std.specs.Prelude.{◌≡◌, ◌≤◌, ◌<◌, IfOk, Some, length};
 ghost use Rattle.cell_reader.specs.Cell.{cell_of};
 ghost use Rattle.cell_reader.specs.Cover.{marked_on, marks_with};
@@ -11,8 +6,18 @@ ghost use Rattle.cell_reader.specs.Inside.{IsInside};
 ghost use Rattle.cell_reader.specs.Shape.{shape_at};
 ghost use Rattle.page_walk.specs.Page.{screened_as};
 
+use crate::causes::{CellCause, cause};
+use cell_reader::{Accepted, CellView, PageShape, cell};
+use page_access::Geometry;
+
 // Cell i of the page where it is accepted, and then holds its bytes; else why it is not.
-pub fn screen(page: &[u8], shape: &PageShape, geo: &Geometry, i: u32, accepted: &mut Accepted) -> Result<CellView, CellCause>
+pub fn screen(
+    page: &[u8],
+    shape: &PageShape,
+    geo: &Geometry,
+    i: u32,
+    accepted: &mut Accepted,
+) -> Result<CellView, CellCause>
     requires index { i < shape.now.cells }
     requires whole { geo.now.usable ≤ length page.now }
     requires of_page { shape_at page.now shape.now.head geo.now.usable ≡ Some shape.now }

@@ -19,7 +19,7 @@ returns-in_err-push_some-clause-moves g c = going_moves c.take_cell.new.table c.
 pub loop-i-preserved : goal.loop-i-preserved
 loop-i-preserved g c =
     going_more c.take_cell.new.src c.take_cell.new.table c.push_some.new.to.items c.screen-cell.new.accepted
-        c.screen-cell.result c.in_ok-outcome.outcome c.loop-i.invariant c.loop-i-test.true c.screen-cell.ensures.verdict
-        c.screen-cell.ensures.marked c.screen-cell.ensures.len c.in_ok-outcome.ensures.value c.in_ok-outcome.ensures.moved
-        c.in_ok-outcome.ensures.small c.take_cell.ensures.kept c.take_cell.ensures.moves c.in_ok-outcome.ensures.reads
-        c.in_ok-push_some.ensures.items
+    c.screen-cell.result c.in_ok-outcome.outcome c.loop-i.invariant c.loop-i-test.true c.screen-cell.ensures.verdict
+    c.screen-cell.ensures.marked c.screen-cell.ensures.len c.in_ok-outcome.ensures.value c.in_ok-outcome.ensures.moved
+    c.in_ok-outcome.ensures.small c.take_cell.ensures.kept c.take_cell.ensures.moves c.in_ok-outcome.ensures.reads
+    c.in_ok-push_some.ensures.items

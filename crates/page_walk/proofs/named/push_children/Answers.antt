@@ -9,9 +9,9 @@ loop-i-init c = naming_start _ _ _ _ _ _ c.in_ok-accepted.ensures
 pub loop-i-preserved : goal.loop-i-preserved
 loop-i-preserved c =
     naming_more _ _ _ _ _ _ _ _ _ _ c.accepted_child-child.result c.loop-i.invariant c.loop-i-test.true
-        c.screen.ensures.marked (c.screen.ensures.len ∙ c.loop-i.invariant.len)
-        (c.accepted_child-child.ensures ∙ ap child_by c.screen.ensures.verdict)
-        c.in_ok-push_some.ensures.items c.push_some.ensures.bound
+    c.screen.ensures.marked (c.screen.ensures.len ∙ c.loop-i.invariant.len)
+    (c.accepted_child-child.ensures ∙ ap child_by c.screen.ensures.verdict)
+    c.in_ok-push_some.ensures.items
 
 pub returns-clause-value : goal.returns-clause-value
 returns-clause-value c = naming_end _ _ _ _ _ _ _ _ c.loop-i.invariant c.loop-i-test.false

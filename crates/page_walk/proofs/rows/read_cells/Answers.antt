@@ -11,7 +11,7 @@ returns-in_err-sort_out-clause-adds g c =
 pub returns-clause-rows : goal.returns-clause-rows
 returns-clause-rows g c =
     rows_told (g.S.Source.bytes c.args.src.now) (λ all. outcomes_on (file_of all c.args.geo.now) c.args.page (unused c.args.table.now))
-        _ _ _ _ c.new-outcomes.ensures.items c.in_ok-cells_of.ensures.value c.in_ok-sort_out.ensures.rows
+    _ _ _ _ c.new-outcomes.ensures.items c.in_ok-cells_of.ensures.value c.in_ok-sort_out.ensures.rows
 
 pub returns-clause-adds : goal.returns-clause-adds
 returns-clause-adds g c =

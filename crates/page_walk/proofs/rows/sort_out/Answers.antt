@@ -10,4 +10,4 @@ loop-outcome-init c =
 pub loop-outcome-preserved : goal.loop-outcome-preserved
 loop-outcome-preserved c =
     sorting_more _ _ _ _ _ _ c.in-Some.outcome _ _ _ _ c.loop-outcome.invariant c.in-Some.ensures.steps.0
-        c.in-Some.ensures.steps.1 c.in_ok-notes.ensures.rows c.in_ok-notes.ensures.notes
+    c.in-Some.ensures.steps.1 c.in_ok-notes.ensures.rows c.in_ok-notes.ensures.notes

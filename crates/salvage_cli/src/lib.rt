@@ -11,3 +11,6 @@ mod runs;
 pub use adapters::{FileSource, NoSink, StreamSink};
 pub use faults::Fault;
 pub use runs::run;
+
+#[cfg(test)]
+mod tests;

@@ -1,5 +1,5 @@
 -- The children of the cells that a loop has passed, and of those to come.
-use Rattle.std.proofs.Common.{append-nil, length-append, Some, None, true, ◌≡◌, ◌<◌, ◌≤◌, ℕ, zero, suc, ◌+◌, ◌-◌, Bool, false, List, [], ◌∷◌, ◌++◌, length, Option, refl, sym, ◌∙◌, ap, arith, append_assoc, replicate}
+use Rattle.std.proofs.Common.{append-nil, length-append, Some, None, true, ◌≡◌, ◌<◌, ◌≤◌, ℕ, suc, ◌+◌, ◌-◌, Bool, false, List, [], ◌∷◌, ◌++◌, length, Option, refl, sym, ◌∙◌, ap, arith, append_assoc, replicate}
 use Rattle.std.proofs.lemmas.List.{length-replicate}
 use Rattle.std.specs.Prelude.{option_to_list, if◌then◌else◌, IfSome, Result}
 use Rattle.std.specs.List.{flat_map}

@@ -1,18 +1,17 @@
 -- A record gives few values, and no more bytes than its payload has.
-use Rattle.std.proofs.Common.{◌≡◌, ◌<◌, ◌≤◌, ◌⊎◌, inl, inr, ℕ, zero, suc, ◌+◌, ◌-◌, ◌*◌, ◌%◌, ◌==◌, Bool, true, false, Option, Some, None, List, [], ◌∷◌, ◌++◌, length, take, drop, refl, sym, ◌∙◌, ap, subst, arith, length-take, length-drop}
-use Rattle.std.specs.Prelude.{ℤ, nat_lt, if◌then◌else◌, sum_by, Result, Ok, Err}
-use Rattle.std.specs.List.{AllByRecursion, list_any}
+use Rattle.std.proofs.Common.{◌≡◌, ◌≤◌, ◌⊎◌, inl, inr, ℕ, suc, ◌+◌, ◌-◌, ◌*◌, ◌%◌, ◌==◌, Bool, true, false, Option, Some, None, List, [], ◌∷◌, ◌++◌, length, take, drop, refl, sym, ◌∙◌, ap, subst, arith, length-take}
+use Rattle.std.specs.Prelude.{ℤ, nat_lt, sum_by, Result, Ok, Err}
+use Rattle.std.specs.List.{list_any}
 use Rattle.std.proofs.lemmas.Bool.Decides.{nat_tests}
 use Rattle.std.proofs.lemmas.List.Sums.{sum_by-cons}
 use Rattle.page_lists.specs.Table.{Table}
 use Rattle.record_core.specs.declared.faults.RecordFault.{RecordFault}
-use Rattle.record_core.specs.declared.faults.RecordFault.TheVariants.{TooManyFields, Reserved, BodyShort}
 use Rattle.record_core.specs.declared.values.Value.{Value}
-use Rattle.record_core.specs.Record.{Header, body_len, value_of, values_of, bodies_len, header_at, checked, and_then, is_reserved, record_header, record_of, values_at}
+use Rattle.record_core.specs.Record.{Header, body_len, value_of, values_of, bodies_len, header_at, checked, and_then, is_reserved, record_of, values_at}
 use Rattle.cell_reader.specs.Inside.{HasOverflow}
 use Rattle.overflow_chain.specs.Turn.{Takes}
-use Rattle.page_walk.specs.Bounds.{ArePages, IsSmall, IsSmallRow, value_len}
-use Rattle.page_walk.specs.Cells.{Outcome, Read, Lost, read_as}
+use Rattle.page_walk.specs.Bounds.{ArePages, IsSmall, value_len}
+use Rattle.page_walk.specs.Cells.{Outcome, read_as}
 
 either : (b : Bool) → (b ≡ true) ⊎ (b ≡ false)
 either true = inl refl

@@ -1,5 +1,5 @@
 -- The outcomes that a loop has sorted, and those to come.
-use Rattle.std.proofs.Common.{◌≡◌, ◌<◌, ◌≤◌, ℕ, zero, suc, ◌+◌, Option, Some, None, List, [], ◌∷◌, ◌++◌, length, map, refl, sym, ◌∙◌, ap, subst, arith, append_assoc, append-nil, length-append}
+use Rattle.std.proofs.Common.{◌≡◌, ◌≤◌, ℕ, ◌+◌, Option, Some, None, List, [], ◌∷◌, ◌++◌, length, map, refl, sym, ◌∙◌, ap, subst, arith, append_assoc, append-nil, length-append}
 use Rattle.std.specs.Prelude.{unwrap_or, slice_get, IfSome}
 use Rattle.std.specs.List.{AllByRecursion}
 use Rattle.std.proofs.lemmas.List.{map-append}
@@ -9,7 +9,7 @@ use Rattle.page_walk.specs.declared.outcomes.CellOutcome.{CellOutcome}
 use Rattle.page_walk.specs.declared.outcomes.CellOutcome.TheVariants as outcomes
 use Rattle.page_walk.specs.declared.rows.PageNotes.{PageNotes}
 use Rattle.page_walk.specs.Bounds.{Adds, AddsRows, IsSmall, IsSmallRow}
-use Rattle.page_walk.specs.Cells.{Row, Outcome, Read, Lost, outcome_of, row_of}
+use Rattle.page_walk.specs.Cells.{Row, Outcome, outcome_of, row_of}
 use Rattle.page_walk.specs.Rows.{GainsFront, causes_of, notes_of, notes_with, rows_of, taken_in}
 
 -- the first of the noted cells and those to come

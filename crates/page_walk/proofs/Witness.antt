@@ -1,6 +1,6 @@
 -- Each readable cell of a page has its evidence.
-use Rattle.std.proofs.Common.{◌≡◌, ◌<◌, ◌≤◌, ◌⊎◌, inl, inr, ℕ, zero, suc, ◌+◌, ◌==◌, Bool, true, false, Option, Some, None, List, [], ◌∷◌, ◌++◌, length, refl, sym, ◌∙◌, ap, subst, arith}
-use Rattle.std.specs.Prelude.{if◌then◌else◌, ℤ, slice_get, IfSome, OnOk, Result, Ok, Err}
+use Rattle.std.proofs.Common.{◌≡◌, ◌≤◌, ℕ, suc, ◌+◌, ◌==◌, Bool, true, false, Option, Some, None, List, [], ◌∷◌, ◌++◌, refl, sym, ◌∙◌, ap, subst, arith}
+use Rattle.std.specs.Prelude.{if◌then◌else◌, slice_get, IfSome, OnOk, Result, Ok, Err}
 use Rattle.std.specs.List.{AllByRecursion, slice_range}
 use Rattle.page_access.specs.Pages.{File, page_at}
 use Rattle.page_lists.specs.Lists.{count, minus, without}
@@ -19,7 +19,6 @@ use Rattle.cell_reader.specs.Screen.{Verdict, Kept, Faulty, Overlaps, verdicts}
 use Rattle.overflow_chain.specs.declared.ChainEnd.{ChainEnd}
 use Rattle.overflow_chain.specs.declared.ChainEnd.TheVariants.{Whole, Broken}
 use Rattle.overflow_chain.proofs.Longest.{whole_turn_is_chain}
-use Rattle.page_walk.specs.declared.causes.CellCause.{CellCause}
 use Rattle.page_walk.specs.Cells.{Row, Outcome, Read, Lost, missing, turn_from, bytes_from, end_from, read_as, ended_as, entry_at, outcome_at, outcomes_from, outcomes_in, outcomes_on, outcomes_with, chains_of}
 use Rattle.page_walk.specs.Evidence.{Evidence, IsRest, AreOnce, ReadableHaveEvidence}
 use Rattle.page_walk.specs.Page.{screened_as, shape_on, verdicts_on, verdicts_in}

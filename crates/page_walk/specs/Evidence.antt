@@ -1,5 +1,5 @@
 -- What shows that a row stands in a file (docs/FORMAT.md, "Readable cells"; fileformat2.html, 1.6, 1.7 and 2.1).
-use Rattle.std.specs.Prelude.{◌≡◌, ◌≤◌, ℕ, ◌++◌, Bool, true, if◌then◌else◌, Option, Some, None, List, [], length, slice_get}
+use Rattle.std.specs.Prelude.{◌≡◌, ◌≤◌, ℕ, ◌++◌, true, if◌then◌else◌, Option, Some, None, List, [], length, slice_get}
 use Rattle.std.specs.List.{AllByRecursion, slice_range}
 use Rattle.page_access.specs.Pages.{File, page_at}
 use Rattle.page_lists.specs.Lists.{count}

@@ -1,5 +1,5 @@
 -- The readable cells of a page, and what is noted of the others (docs/FORMAT.md, "Readable cells").
-use Rattle.std.specs.Prelude.{◌≡◌, ℕ, ◌+◌, unwrap_or, Option, Some, None, List, [], ◌∷◌, ◌++◌, length, slice_get}
+use Rattle.std.specs.Prelude.{◌≡◌, ℕ, ◌+◌, unwrap_or, Some, List, [], ◌∷◌, ◌++◌, length, slice_get}
 use Rattle.page_walk.specs.declared.causes.CellCause.{CellCause}
 use Rattle.page_walk.specs.declared.outcomes.TakenCell.{TakenCell}
 use Rattle.page_walk.specs.declared.outcomes.CellOutcome.{CellOutcome}

@@ -1,4 +1,4 @@
-use Rattle.page_walk.proofs.Going.{going_start, going_more, going_value, going_used, going_adds, going_pages, going_lists, going_moves, going_reads}
+use Rattle.page_walk.proofs.Going.{going_start, going_more, going_pages, going_lists, going_moves}
 use Rattle.page_walk.proofs.cells.add_cells.Goals as goal
 
 pub loop-i-init : goal.loop-i-init

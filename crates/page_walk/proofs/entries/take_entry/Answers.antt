@@ -1,4 +1,4 @@
-use Rattle.std.proofs.Common.{◌≡◌, ◌≤◌, ◌-◌, ℕ, length, take, drop, refl, sym, ◌∙◌, ap, subst, arith, length-drop, length-take}
+use Rattle.std.proofs.Common.{◌-◌, length, drop, refl, ap, arith, length-drop, length-take}
 use Rattle.std.proofs.lemmas.Result.{IfOk-weaker}
 use Rattle.page_walk.proofs.Small.{entry_small}
 use Rattle.page_walk.proofs.entries.take_entry.Goals as goal

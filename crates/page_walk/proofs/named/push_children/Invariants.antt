@@ -1,7 +1,3 @@
-use Rattle.std.proofs.Common.{length, ◌≡◌, ◌≤◌, ◌+◌, ◌-◌, ◌++◌}
-use Rattle.cell_reader.specs.Cell.{cell_of}
-use Rattle.cell_reader.specs.Cover.{marked_from}
-use Rattle.page_walk.specs.Pointers.{children_by, children_in}
 use Rattle.page_walk.proofs.Names.{Naming}
 use Rattle.page_walk.proofs.named.push_children.Given as goal
 

@@ -1,5 +1,5 @@
-use Rattle.std.proofs.Common.{arith, ap, sym, ◌∙◌, length, refl}
-use Rattle.page_walk.proofs.Sorting.{sorting_start, sorting_more, sorting_done, sorting_front}
+use Rattle.std.proofs.Common.{ap, sym, ◌∙◌, length, refl}
+use Rattle.page_walk.proofs.Sorting.{sorting_start, sorting_more}
 use Rattle.page_walk.proofs.rows.sort_out.Goals as goal
 
 pub loop-outcome-init : goal.loop-outcome-init

@@ -2,7 +2,7 @@
 use Rattle.std.specs.Prelude.{◌≡◌, ℕ, zero, suc, ◌≤◌, ◌+◌, if◌then◌else◌, List, [], ◌∷◌, ◌++◌, length, take}
 use Rattle.std.specs.List.{AllByRecursion}
 use Rattle.page_access.specs.Pages.{File}
-use Rattle.page_lists.specs.Lists.{is_in, without}
+use Rattle.page_lists.specs.Lists.{IsPartOf, is_in, without}
 use Rattle.page_lists.specs.Table.{Table, is_page, unused, all_moved}
 use Rattle.overflow_chain.specs.Chain.{IsChain, chain_len, contents, next_page}
 use Rattle.overflow_chain.specs.declared.Why.{Why}

@@ -6,7 +6,7 @@ use Rattle.salvage_cli.specs.Answers.{fault_line, fault_status, status_of}
 use Rattle.salvage_cli.specs.Run.{GivesWanted, HasNumbers, text_of}
 use Rattle.salvage_cli.specs.Wanted.{wanted}
 use Rattle.salvage_cli.specs.declared.faults.Fault.{Fault}
-use Rattle.salvage_cli.specs.declared.faults.Fault.TheVariants.{Usage, Memory}
+use Rattle.salvage_cli.specs.declared.faults.Fault.TheVariants.{Usage, NoPageSize, NoWholePage, Memory}
 
 -- what is wanted of an input: a listing or a refusal; of words that are no command, that they are refused
 abbrev pub wanted_of : Option Asked → List ℕ → Result (List ℕ) Fault
@@ -55,3 +55,10 @@ pub record Answered (command : Option Asked) (told old new errors_old errors_new
 -- the statuses of refusals that come before anything is listed
 abbrev pub IsEarlyStatus : ℕ → Type 0
 IsEarlyStatus status = (status ≡ 2) ⊎ ((status ≡ 4) ⊎ (status ≡ 5))
+
+-- no pages are found: nothing tells their size, or it is over the length
+abbrev pub HasNoPages : Result (List ℕ) Fault → Type 0
+HasNoPages (Ok text) = ⊥
+HasNoPages (Err NoPageSize) = ⊤
+HasNoPages (Err (NoWholePage len size)) = ⊤
+HasNoPages (Err fault) = ⊥

@@ -1,10 +1,10 @@
 //! The top call.
-ghost use Rattle.std.specs.Prelude.{◌≡◌, ◌⊎◌, None, Some, true, map, string_bytes, IfSome, OnOk, IsErrOf, IsOk};
+ghost use Rattle.std.specs.Prelude.{◌≡◌, ◌⊎◌, ◌<◌, ◌^◌, length, None, Some, true, map, string_bytes, IfSome, OnOk, IsErrOf, IsOk};
 ghost use Rattle.page_access.specs.Outside.{GainsPrefix, HasCauseOf, Rose};
 ghost use Rattle.command_line.specs.Command.{command_of};
 ghost use Rattle.salvage_cli.specs.Answers.{status_of};
 ghost use Rattle.salvage_cli.specs.Run.{HasNumbers, IsEarly, text_of};
-ghost use Rattle.salvage_cli.specs.Outcome.{Answered, GivesCommand, IsAttached, IsEarlyStatus, IsListed, IsNoCommand, IsStatusOf, Says, wanted_of};
+ghost use Rattle.salvage_cli.specs.Outcome.{Answered, GivesCommand, HasNoPages, IsAttached, IsEarlyStatus, IsListed, IsNoCommand, IsStatusOf, Says, wanted_of};
 
 use crate::faults::Fault;
 use crate::lines::put_fault;
@@ -36,6 +36,11 @@ pub fn run<S: Source, O: Sink, T: Sink, R: Sink, E: Sink>(
 
     // refused: only by its cause
     ensures status { IfSome (S.bytes src.old) (λ all. IsStatusOf (wanted_of (command_of (map string_bytes words.now)) all) result) }
+    ensures complete { IfSome (S.bytes src.old) (λ all. IsOk (wanted_of (command_of (map string_bytes words.now)) all)
+        → (Rose (S.faults src.old) (S.faults src.new) → ⊥) → (Rose (R.faults report.old) (R.faults report.new) → ⊥)
+        → (result ≡ 0) ⊎ (result ≡ 11)) }
+    ensures too_large { IfSome (S.bytes src.old) (λ all. result ≡ 5 → 2 ^ 28 < length all) }
+    ensures no_pages { IfSome (S.bytes src.old) (λ all. result ≡ 4 → HasNoPages (wanted_of (command_of (map string_bytes words.now)) all)) }
     ensures input_fault { result ≡ 3 → Rose (S.faults src.old) (S.faults src.new) }
     ensures report_fault { result ≡ 9 → Rose (R.faults report.old) (R.faults report.new) }
     ensures answered { Answered (command_of (map string_bytes words.now)) (S.bytes src.old) (R.bytes report.old) (R.bytes report.new)

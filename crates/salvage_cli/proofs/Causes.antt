@@ -1,0 +1,107 @@
+-- What a status says of the told bytes.
+use Rattle.std.proofs.Common.{◌≡◌, ◌⊎◌, ◌<◌, ◌^◌, ◌==◌, ℕ, Bool, true, false, List, length, Option, Some, None, Result, Ok, Err, ap, subst, inl, inr, refl, sym, arith, if◌then◌else◌}
+use Rattle.std.specs.Prelude.{IfSome, IsErrOf, IsOk, nat_lt}
+use Rattle.std.proofs.lemmas.Bool.Decides.{nat_tests}
+use Rattle.command_line.specs.Parts.{Asked}
+use Rattle.command_line.specs.declared.request.Mode.{Mode}
+use Rattle.page_size.specs.Rule.{Finding, rule}
+use Rattle.page_size.specs.declared.finds.GeoFault.{GeoFault}
+use Rattle.page_size.specs.declared.finds.GeoFault.TheVariants as geo
+use Rattle.salvage_cli.specs.Answers.{status_of}
+use Rattle.salvage_cli.specs.Outcome.{GivesCommand, HasNoPages, wanted_of}
+use Rattle.salvage_cli.specs.Run.{GivesWanted}
+use Rattle.salvage_cli.proofs.Outcomes.{refused}
+use Rattle.salvage_cli.specs.Wanted.{pages_by, pages_of, wanted, wanted_by}
+use Rattle.salvage_cli.specs.declared.faults.Fault.{Fault}
+use Rattle.salvage_cli.specs.declared.faults.Fault.TheVariants.{Usage, InputFault, TooLarge, NoPageSize, NoWholePage, ReportFault, Memory}
+
+-- a listing that is wanted comes, or there is a fault of the outside, or no memory
+complete_of : {A : Type 0} (F G : Type 0) (want : Result (List ℕ) Fault) (old new : Option (List ℕ)) (answer : Result A Fault) → GivesWanted want old new answer
+    → (IsErrOf answer InputFault → F) → (IsErrOf answer ReportFault → G) → IsOk want → (F → ⊥) → (G → ⊥) → (status_of answer ≡ 0) ⊎ (status_of answer ≡ 11)
+complete_of F G (Err fault) old new answer h f g ok no_f no_g = absurd cc
+complete_of F G (Ok text) old new (Ok done) h f g ok no_f no_g = inl refl
+complete_of F G (Ok text) old new (Err Usage) h f g ok no_f no_g = absurd h
+complete_of F G (Ok text) old new (Err InputFault) h f g ok no_f no_g = absurd (no_f (f refl))
+complete_of F G (Ok text) old new (Err ReportFault) h f g ok no_f no_g = absurd (no_g (g refl))
+complete_of F G (Ok text) old new (Err Memory) h f g ok no_f no_g = inr refl
+complete_of F G (Ok text) old new (Err (TooLarge len)) h f g ok no_f no_g = absurd cc
+complete_of F G (Ok text) old new (Err NoPageSize) h f g ok no_f no_g = absurd cc
+complete_of F G (Ok text) old new (Err (NoWholePage len size)) h f g ok no_f no_g = absurd cc
+
+pub complete_told : {A : Type 0} (F G : Type 0) (command : Option Asked) (told old new : Option (List ℕ)) (answer : Result A Fault)
+    → IfSome told (λ all. GivesCommand command all old new answer) → (IsErrOf answer InputFault → F) → (IsErrOf answer ReportFault → G)
+    → IfSome told (λ all. IsOk (wanted_of command all) → (F → ⊥) → (G → ⊥) → (status_of answer ≡ 0) ⊎ (status_of answer ≡ 11))
+complete_told F G command None old new answer h f g = tt
+complete_told F G None (Some all) old new answer h f g = λ ok no_f no_g. absurd cc
+complete_told F G (Some asked) (Some all) old new answer h f g = complete_of F G (wanted asked all) old new answer h f g
+
+-- the rule refuses no length
+not_by_rule : (found : Result Finding GeoFault) (len : ℕ) → pages_by found ≡ Err (TooLarge len) → ⊥
+not_by_rule (Ok f) len e = cc
+not_by_rule (Err geo.NoPageSize) len e = cc
+not_by_rule (Err (geo.NoWholePage l s)) len e = cc
+not_by_rule (Err geo.Source) len e = cc
+not_by_rule (Err geo.Memory) len e = cc
+
+over_by : (large empty : Bool) (n len : ℕ) (found : Result Finding GeoFault) →
+    (if large then Err (TooLarge n) else (if empty then Ok None else pages_by found)) ≡ Err (TooLarge len) → large ≡ true
+over_by true empty n len found e = refl
+over_by false true n len found e = absurd cc
+over_by false false n len found e = absurd (not_by_rule found len e)
+
+refusal_of : (mode : Mode) (all : List ℕ) (pages : Result (Option Finding) Fault) (fault : Fault) → wanted_by mode all pages ≡ Err fault → pages ≡ Err fault
+refusal_of mode all (Ok pages) fault e = absurd cc
+refusal_of mode all (Err found) fault e = let same : found ≡ fault = cc in ap (λ (f : Fault). Err f) same
+
+-- an input that is too large has over 2^28 bytes
+over : (asked : Asked) (all : List ℕ) (len : ℕ) → wanted asked all ≡ Err (TooLarge len) → 2 ^ 28 < length all
+unfolding pages_of
+over asked all len e =
+    let p = refusal_of asked.mode all (pages_of asked all) (TooLarge len) e in
+    let t : nat_lt (2 ^ 28) (length all) ≡ true =
+        over_by (nat_lt (2 ^ 28) (length all)) (length all == 0) (length all) len (rule all asked.page_size asked.reserved) p in
+    grind (arith, nat_tests)
+
+five_is : {A : Type 0} (answer : Result A Fault) → status_of answer ≡ 5 → (len : ℕ) × (answer ≡ Err (TooLarge len))
+five_is (Ok done) e = absurd (omega arith)
+five_is (Err Usage) e = absurd (omega arith)
+five_is (Err InputFault) e = absurd (omega arith)
+five_is (Err (TooLarge len)) e = (len, refl)
+five_is (Err NoPageSize) e = absurd (omega arith)
+five_is (Err (NoWholePage len size)) e = absurd (omega arith)
+five_is (Err ReportFault) e = absurd (omega arith)
+five_is (Err Memory) e = absurd (omega arith)
+
+large_of : {A : Type 0} (want : Result (List ℕ) Fault) (old new : Option (List ℕ)) (answer : Result A Fault) → GivesWanted want old new answer
+    → status_of answer ≡ 5 → (len : ℕ) × (want ≡ Err (TooLarge len))
+large_of {A = A} (Ok text) old new answer h e =
+    let five = five_is answer e in
+    (five.0, subst (λ (r : Result A Fault). GivesWanted (Ok text) old new r) five.1 h)
+large_of {A = A} (Err fault) old new answer h e =
+    let five = five_is answer e in
+    (five.0, subst (λ (r : Result A Fault). GivesWanted (Err fault) old new r) five.1 h)
+
+pub over_told : {A : Type 0} (command : Option Asked) (told old new : Option (List ℕ)) (answer : Result A Fault)
+    → IfSome told (λ all. GivesCommand command all old new answer) → IfSome told (λ all. status_of answer ≡ 5 → 2 ^ 28 < length all)
+over_told command None old new answer h = tt
+over_told None (Some all) old new answer h = λ e. elim (refused answer h) [ inl two ↦ absurd (omega arith) | inr eleven ↦ absurd (omega arith) ]
+over_told (Some asked) (Some all) old new answer h = λ e. let large = large_of (wanted asked all) old new answer h e in over asked all large.0 large.1
+
+no_pages_of : {A : Type 0} (want : Result (List ℕ) Fault) (old new : Option (List ℕ)) (answer : Result A Fault) → GivesWanted want old new answer
+    → status_of answer ≡ 4 → HasNoPages want
+no_pages_of want old new (Ok done) h e = absurd (omega arith)
+no_pages_of want old new (Err Usage) h e = absurd (omega arith)
+no_pages_of want old new (Err InputFault) h e = absurd (omega arith)
+no_pages_of want old new (Err (TooLarge len)) h e = absurd (omega arith)
+no_pages_of want old new (Err ReportFault) h e = absurd (omega arith)
+no_pages_of want old new (Err Memory) h e = absurd (omega arith)
+no_pages_of (Ok text) old new (Err NoPageSize) h e = absurd cc
+no_pages_of (Err fault) old new (Err NoPageSize) h e = subst (λ (w : Result (List ℕ) Fault). HasNoPages w) (sym h) tt
+no_pages_of (Ok text) old new (Err (NoWholePage len size)) h e = absurd cc
+no_pages_of (Err fault) old new (Err (NoWholePage len size)) h e = subst (λ (w : Result (List ℕ) Fault). HasNoPages w) (sym h) tt
+
+pub no_pages_told : {A : Type 0} (command : Option Asked) (told old new : Option (List ℕ)) (answer : Result A Fault)
+    → IfSome told (λ all. GivesCommand command all old new answer) → IfSome told (λ all. status_of answer ≡ 4 → HasNoPages (wanted_of command all))
+no_pages_told command None old new answer h = tt
+no_pages_told None (Some all) old new answer h = λ e. elim (refused answer h) [ inl two ↦ absurd (omega arith) | inr eleven ↦ absurd (omega arith) ]
+no_pages_told (Some asked) (Some all) old new answer h = no_pages_of (wanted asked all) old new answer h

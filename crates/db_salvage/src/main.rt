@@ -30,7 +30,15 @@ fn start(rt: &HostRuntime) -> io::Result<u8> {
     let mut report = StreamSink::new(BufWriter::with_capacity(alloc, BUFFER, rt.stdout())?);
     let mut errors = StreamSink::new(rt.stderr());
     let mut src = FileSource::new(rt);
-    Ok(run(alloc, &words, &mut src, &mut NoSink, &mut NoSink, &mut report, &mut errors))
+    Ok(run(
+        alloc,
+        &words,
+        &mut src,
+        &mut NoSink,
+        &mut NoSink,
+        &mut report,
+        &mut errors,
+    ))
 }
 
 // The words after the program's name; none where one of them is no UTF-8, which are no command either.

@@ -36,7 +36,7 @@ left_is None f p old new before after e u value = tt
 left_is (Some all) f p old new before after e u value =
     let more : after ≡ u.more = u.all ∙ ap (λ b. b ++ u.more) e in
     let outcomes : map outcome_of u.more ≡ outcomes_on (f all) p (unused old) =
-        ap (map outcome_of) (sym more) ∙ value ∙ ap (λ b. map outcome_of b ++ outcomes_on (f all) p (unused old)) e in
+    ap (map outcome_of) (sym more) ∙ value ∙ ap (λ b. map outcome_of b ++ outcomes_on (f all) p (unused old)) e in
     ap unused u.table ∙ unused-all_moved (chains_of (map outcome_of u.more)) 4 old (lit≤ tt) ∙ ap (λ os. minus (unused old) (chains_of os)) outcomes
 
 -- the table keeps its pages and its lists

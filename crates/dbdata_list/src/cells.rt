@@ -19,7 +19,12 @@ const LISTS: u32 = 7;
 
 /// Lists every cell of every page in rising order: a line `PAGE CELL FIELD VALUE` for each value of a
 /// readable cell, its rowid first as field -1, and `PAGE CELL unread CAUSE` for any other cell.
-pub fn list_data<S: Source, R: Sink>(alloc: Global, src: &mut S, geo: &Geometry, to: &mut R) -> Result<(), ListFault>
+pub fn list_data<S: Source, R: Sink>(
+    alloc: Global,
+    src: &mut S,
+    geo: &Geometry,
+    to: &mut R,
+) -> Result<(), ListFault>
     ensures text { IfSome (S.bytes src.old) (λ all.
         WritesOf ListFault.Sink (R.bytes to.old) (R.bytes to.new) (R.faults to.old) (R.faults to.new) (data_text (file_of all geo.now)) result) }
     ensures source { HasCauseOf ListFault.Source (S.faults src.old) (S.faults src.new) result }
@@ -35,7 +40,14 @@ pub fn list_data<S: Source, R: Sink>(alloc: Global, src: &mut S, geo: &Geometry,
 }
 
 // Lists the cells of page `page` at their turns.
-fn list_cells<S: Source, R: Sink>(alloc: Global, src: &mut S, geo: &Geometry, table: &mut PageTable, page: u32, to: &mut R) -> Result<(), ListFault>
+fn list_cells<S: Source, R: Sink>(
+    alloc: Global,
+    src: &mut S,
+    geo: &Geometry,
+    table: &mut PageTable,
+    page: u32,
+    to: &mut R,
+) -> Result<(), ListFault>
     requires page_least { 1 ≤ page }
     requires page_most { page ≤ geo.now.pages }
     requires same_pages { table.old.pages ≡ geo.now.pages }
@@ -73,7 +85,13 @@ fn put_cell<R: Sink>(to: &mut R, page: u32, cell: &CellOutcome) -> Result<(), Fa
     ensures kept { KeepsSink R.created R.faults to.old to.new }
 {
     match cell {
-        CellOutcome::Taken(taken) => put_row(to, page, taken.place.cell, taken.rowid, &taken.fields),
+        CellOutcome::Taken(taken) => put_row(
+            to,
+            page,
+            taken.place.cell,
+            taken.rowid,
+            &taken.fields,
+        ),
         CellOutcome::Unread { cell, cause, .. } => put_unread(to, page, *cell, word(*cause)),
     }
 }

@@ -59,7 +59,7 @@ unfolding pages_of
 over asked all len e =
     let p = refusal_of asked.mode all (pages_of asked all) (TooLarge len) e in
     let t : nat_lt (2 ^ 28) (length all) ≡ true =
-        over_by (nat_lt (2 ^ 28) (length all)) (length all == 0) (length all) len (rule all asked.page_size asked.reserved) p in
+    over_by (nat_lt (2 ^ 28) (length all)) (length all == 0) (length all) len (rule all asked.page_size asked.reserved) p in
     grind (arith, nat_tests)
 
 five_is : {A : Type 0} (answer : Result A Fault) → status_of answer ≡ 5 → (len : ℕ) × (answer ≡ Err (TooLarge len))

@@ -16,7 +16,11 @@ const MAX_INPUT: u64 = 1 << 28;
 
 /// The pages of the input, none where it is empty.
 #[tactic(auto, unfolding(crate::specs::Wanted::pages_of))]
-pub(crate) fn find_pages<S: Source>(alloc: Global, request: &Request<'_>, src: &mut S) -> Result<Option<Found>, Fault>
+pub(crate) fn find_pages<S: Source>(
+    alloc: Global,
+    request: &Request<'_>,
+    src: &mut S,
+) -> Result<Option<Found>, Fault>
     requires { HasOptions request.now.page_size request.now.reserved }
     ensures told { IfSome (S.bytes src.old) (λ all. FindsPages result (pages_of (view request.now) all)) }
     ensures numbers { IsOfInput result }

@@ -42,11 +42,20 @@ fn add_text(line: &mut Line, fault: &Fault)
     ensures len { array_vec_len line.new ≤ 120 }
 {
     match fault {
-        Fault::Usage => add(line, b"use: recover INPUT OUTPUT SCRIPT, dbdata INPUT, dbptr INPUT, schema INPUT, trial N"),
+        Fault::Usage => add(
+            line,
+            b"use: recover INPUT OUTPUT SCRIPT, dbdata INPUT, dbptr INPUT, schema INPUT, trial N",
+        ),
         Fault::InputFault => add(line, b"input fault"),
         Fault::TooLarge { len } => add_number(line, b"input too large: ", *len, b" bytes"),
         Fault::NoPageSize => add(line, b"no page size found"),
-        Fault::NoWholePage { len, size } => add_numbers(line, b"no whole page: ", *len, b" bytes, page size ", *size),
+        Fault::NoWholePage { len, size } => add_numbers(
+            line,
+            b"no whole page: ",
+            *len,
+            b" bytes, page size ",
+            *size,
+        ),
         Fault::ReportFault => add(line, b"report fault"),
         Fault::Memory => add(line, b"out of memory"),
     }

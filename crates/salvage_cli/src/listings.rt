@@ -15,7 +15,12 @@ use page_access::{Geometry, ReadFault, Sink, Source};
 use std::alloc::Global;
 
 /// Lists the input in the report, and finishes the report.
-pub(crate) fn list<S: Source, R: Sink>(alloc: Global, request: &Request<'_>, src: &mut S, report: &mut R) -> Result<(), Fault>
+pub(crate) fn list<S: Source, R: Sink>(
+    alloc: Global,
+    request: &Request<'_>,
+    src: &mut S,
+    report: &mut R,
+) -> Result<(), Fault>
     requires { HasOptions request.now.page_size request.now.reserved }
     ensures told { IfSome (S.bytes src.old) (λ all. GivesWanted (wanted (view request.now) all) (R.bytes report.old) (R.bytes report.new) result) }
     ensures name { OnOk result (S.attached src.new ≡ Some request.now.input.now) }
@@ -45,7 +50,13 @@ fn attach<S: Source>(alloc: Global, request: &Request<'_>, src: &mut S) -> Resul
 }
 
 // Lists a file in the report, and finishes the report.
-fn put_all<S: Source, R: Sink>(alloc: Global, mode: Mode, geo: &Geometry, src: &mut S, report: &mut R) -> Result<(), Fault>
+fn put_all<S: Source, R: Sink>(
+    alloc: Global,
+    mode: Mode,
+    geo: &Geometry,
+    src: &mut S,
+    report: &mut R,
+) -> Result<(), Fault>
     ensures text { IfSome (S.bytes src.old) (λ all. GivesWanted (Ok (listing_of mode (file_of all geo.now))) (R.bytes report.old) (R.bytes report.new) result) }
     ensures finished { OnOk result (R.finished report.new ≡ true) }
     ensures source { HasCauseOf Fault.InputFault (S.faults src.old) (S.faults src.new) result }
@@ -58,7 +69,13 @@ fn put_all<S: Source, R: Sink>(alloc: Global, mode: Mode, geo: &Geometry, src: &
 }
 
 // Lists a file in the report.
-fn put_listing<S: Source, R: Sink>(alloc: Global, mode: Mode, geo: &Geometry, src: &mut S, report: &mut R) -> Result<(), Fault>
+fn put_listing<S: Source, R: Sink>(
+    alloc: Global,
+    mode: Mode,
+    geo: &Geometry,
+    src: &mut S,
+    report: &mut R,
+) -> Result<(), Fault>
     ensures text { IfSome (S.bytes src.old) (λ all.
         WritesOf Fault.ReportFault (R.bytes report.old) (R.bytes report.new) (R.faults report.old) (R.faults report.new) (listing_of mode (file_of all geo.now)) result) }
     ensures source { HasCauseOf Fault.InputFault (S.faults src.old) (S.faults src.new) result }

@@ -61,7 +61,12 @@ pub fn run<S: Source, O: Sink, T: Sink, R: Sink, E: Sink>(
 }
 
 // Does what the words ask for.
-fn answer<S: Source, R: Sink>(alloc: Global, words: &[String], src: &mut S, report: &mut R) -> Result<(), Fault>
+fn answer<S: Source, R: Sink>(
+    alloc: Global,
+    words: &[String],
+    src: &mut S,
+    report: &mut R,
+) -> Result<(), Fault>
     ensures usage { IsErrOf result Fault.Usage → command_of (map string_bytes words.now) ≡ None }
     ensures no_command { command_of (map string_bytes words.now) ≡ None → IsNoCommand result }
     ensures told { IfSome (S.bytes src.old) (λ all. GivesCommand (command_of (map string_bytes words.now)) all (R.bytes report.old) (R.bytes report.new) result) }

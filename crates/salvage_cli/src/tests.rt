@@ -1,12 +1,13 @@
 //! Whole runs over objects in memory. The files and the lines are written by hand from the format.
 use crate::run;
-use page_access::{MemFail, MemSink, MemSource, SparseSource, Source};
+use page_access::{MemFail, MemSink, MemSource, Source, SparseSource};
 use std::alloc::Global;
 use std::test::Fail;
 
 const ROOM: u64 = 1 << 16;
 
-const TWELVE_LINES: &[u8] = b"1 0 -1 int:1\n1 0 0 text:7461626c65\n1 0 1 text:74\n1 0 2 text:74\n1 0 3 int:2\n\
+const TWELVE_LINES: &[u8] =
+    b"1 0 -1 int:1\n1 0 0 text:7461626c65\n1 0 1 text:74\n1 0 2 text:74\n1 0 3 int:2\n\
     1 0 4 text:435245415445205441424c45207428612c6229\n2 0 -1 int:1\n2 0 0 int:5\n2 0 1 text:78\n\
     2 1 -1 int:2\n2 1 0 null\n2 1 1 blob:00\n";
 
@@ -39,11 +40,25 @@ fn one_failure(alloc: Global, call: u64, keep: u64) -> Result<Vec<MemFail>, Fail
     Ok(fails)
 }
 
-fn ran_over<S: Source>(alloc: Global, words: &[&str], src: &mut S, mut report: MemSink, mut errors: MemSink) -> Result<Ran, Fail> {
+fn ran_over<S: Source>(
+    alloc: Global,
+    words: &[&str],
+    src: &mut S,
+    mut report: MemSink,
+    mut errors: MemSink,
+) -> Result<Ran, Fail> {
     let words = words_of(alloc, words)?;
     let mut out = MemSink::new(alloc, ROOM, no_failure(alloc))?;
     let mut script = MemSink::new(alloc, ROOM, no_failure(alloc))?;
-    let status = run(alloc, &words, src, &mut out, &mut script, &mut report, &mut errors);
+    let status = run(
+        alloc,
+        &words,
+        src,
+        &mut out,
+        &mut script,
+        &mut report,
+        &mut errors,
+    );
     Ok(Ran {
         status,
         report: Vec::from_slice(alloc, report.bytes())?,
@@ -72,7 +87,11 @@ fn file_of_t(alloc: Global, pages: u8) -> Result<Vec<u8>, Fail> {
     place(all, 0, b"SQLite format 3\0\x02\x00\x01\x01\x00\x40\x20\x20");
     place(all, 56, b"\x00\x00\x00\x01");
     place(all, 100, b"\x0d\x00\x00\x00\x01\x01\xdd\x00\x01\xdd");
-    place(all, 477, b"\x21\x01\x06\x17\x0f\x0f\x01\x33tablett\x02CREATE TABLE t(a,b)");
+    place(
+        all,
+        477,
+        b"\x21\x01\x06\x17\x0f\x0f\x01\x33tablett\x02CREATE TABLE t(a,b)",
+    );
     Ok(bytes)
 }
 
@@ -80,8 +99,16 @@ fn file_of_t(alloc: Global, pages: u8) -> Result<Vec<u8>, Fail> {
 fn two_rows(alloc: Global) -> Result<Vec<u8>, Fail> {
     let mut bytes = file_of_t(alloc, 2)?;
     let all = bytes.as_mut_slice();
-    place(all, 512, b"\x0d\x00\x00\x00\x02\x01\xf3\x00\x01\xf9\x01\xf3");
-    place(all, 512 + 499, b"\x04\x02\x03\x00\x0e\x00\x05\x01\x03\x01\x0f\x05\x78");
+    place(
+        all,
+        512,
+        b"\x0d\x00\x00\x00\x02\x01\xf3\x00\x01\xf9\x01\xf3",
+    );
+    place(
+        all,
+        512 + 499,
+        b"\x04\x02\x03\x00\x0e\x00\x05\x01\x03\x01\x0f\x05\x78",
+    );
     Ok(bytes)
 }
 
@@ -100,7 +127,11 @@ fn chain_to_itself(alloc: Global) -> Result<Vec<u8>, Fail> {
 fn child_is_its_parent(alloc: Global) -> Result<Vec<u8>, Fail> {
     let mut bytes = file_of_t(alloc, 3)?;
     let all = bytes.as_mut_slice();
-    place(all, 512, b"\x05\x00\x00\x00\x01\x01\xfb\x00\x00\x00\x00\x03\x01\xfb");
+    place(
+        all,
+        512,
+        b"\x05\x00\x00\x00\x01\x01\xfb\x00\x00\x00\x00\x03\x01\xfb",
+    );
     place(all, 512 + 507, b"\x00\x00\x00\x02\x05");
     Ok(bytes)
 }
@@ -118,8 +149,12 @@ fn two_rows_give_twelve_lines(rt: HostRuntime) -> Result<(), Fail> {
 fn chain_to_itself_is_unread(rt: HostRuntime) -> Result<(), Fail> {
     let done = ran_on(rt.alloc(), &["dbdata", "a"], chain_to_itself(rt.alloc())?)?;
     assert_eq!(rt; done.status, 0);
-    assert_eq!(rt; done.report.as_slice(), b"1 0 -1 int:1\n1 0 0 text:7461626c65\n1 0 1 text:74\n1 0 2 text:74\n\
-        1 0 3 int:2\n1 0 4 text:435245415445205441424c45207428612c6229\n2 0 unread chain\n".as_slice());
+    assert_eq!(rt;
+        done.report.as_slice(),
+        b"1 0 -1 int:1\n1 0 0 text:7461626c65\n1 0 1 text:74\n1 0 2 text:74\n\
+        1 0 3 int:2\n1 0 4 text:435245415445205441424c45207428612c6229\n2 0 unread chain\n"
+            .as_slice()
+    );
     let done = ran_on(rt.alloc(), &["dbptr", "a"], chain_to_itself(rt.alloc())?)?;
     assert_eq!(rt; done.status, 0);
     assert_eq!(rt; done.report.len(), 0);
@@ -128,7 +163,11 @@ fn chain_to_itself_is_unread(rt: HostRuntime) -> Result<(), Fail> {
 
 #[test]
 fn pointers_are_listed_whatever_they_name(rt: HostRuntime) -> Result<(), Fail> {
-    let done = ran_on(rt.alloc(), &["dbptr", "a"], child_is_its_parent(rt.alloc())?)?;
+    let done = ran_on(
+        rt.alloc(),
+        &["dbptr", "a"],
+        child_is_its_parent(rt.alloc())?,
+    )?;
     assert_eq!(rt; done.status, 0);
     assert_eq!(rt; done.report.as_slice(), b"2 2\n2 3\n".as_slice());
     Ok(())
@@ -154,9 +193,16 @@ fn words_that_are_no_command_say_the_use(rt: HostRuntime) -> Result<(), Fail> {
 
 #[test]
 fn zeros_have_no_page_size(rt: HostRuntime) -> Result<(), Fail> {
-    let done = ran_on(rt.alloc(), &["dbdata", "a"], vec![in rt.alloc(); 0u8; 4096]?)?;
+    let done = ran_on(
+        rt.alloc(),
+        &["dbdata", "a"],
+        vec![in rt.alloc(); 0u8; 4096]?,
+    )?;
     assert_eq!(rt; done.status, 4);
-    assert_eq!(rt; done.errors.as_slice(), b"db_salvage: no page size found\n".as_slice());
+    assert_eq!(rt;
+        done.errors.as_slice(),
+        b"db_salvage: no page size found\n".as_slice()
+    );
     Ok(())
 }
 
@@ -166,7 +212,10 @@ fn short_file_has_no_whole_page(rt: HostRuntime) -> Result<(), Fail> {
     place(bytes.as_mut_slice(), 16, b"\x10\x00");
     let done = ran_on(rt.alloc(), &["dbdata", "a"], bytes)?;
     assert_eq!(rt; done.status, 4);
-    assert_eq!(rt; done.errors.as_slice(), b"db_salvage: no whole page: 600 bytes, page size 4096\n".as_slice());
+    assert_eq!(rt;
+        done.errors.as_slice(),
+        b"db_salvage: no whole page: 600 bytes, page size 4096\n".as_slice()
+    );
     Ok(())
 }
 
@@ -188,7 +237,10 @@ fn one_byte_over_the_limit_is_too_large(rt: HostRuntime) -> Result<(), Fail> {
     let errors = MemSink::new(alloc, ROOM, no_failure(alloc))?;
     let done = ran_over(alloc, &["dbdata", "a"], &mut src, report, errors)?;
     assert_eq!(rt; done.status, 5);
-    assert_eq!(rt; done.errors.as_slice(), b"db_salvage: input too large: 268435457 bytes\n".as_slice());
+    assert_eq!(rt;
+        done.errors.as_slice(),
+        b"db_salvage: input too large: 268435457 bytes\n".as_slice()
+    );
     Ok(())
 }
 
@@ -203,7 +255,10 @@ fn each_call_of_the_source_that_fails_is_an_input_fault(rt: HostRuntime) -> Resu
         let errors = MemSink::new(alloc, ROOM, no_failure(alloc))?;
         let done = ran_over(alloc, &["dbdata", "a"], &mut src, report, errors)?;
         assert_eq!(rt; done.status, 3);
-        assert_eq!(rt; done.errors.as_slice(), b"db_salvage: input fault\n".as_slice());
+        assert_eq!(rt;
+            done.errors.as_slice(),
+            b"db_salvage: input fault\n".as_slice()
+        );
         assert!(rt; TWELVE_LINES.starts_with(done.report.as_slice()));
         assert!(rt; call == 5 || done.report.is_empty());
     }
@@ -219,7 +274,10 @@ fn a_report_that_fails_keeps_a_front_of_the_listing(rt: HostRuntime) -> Result<(
         let errors = MemSink::new(alloc, ROOM, no_failure(alloc))?;
         let done = ran_over(alloc, &["dbdata", "a"], &mut src, report, errors)?;
         assert_eq!(rt; done.status, 9);
-        assert_eq!(rt; done.errors.as_slice(), b"db_salvage: report fault\n".as_slice());
+        assert_eq!(rt;
+            done.errors.as_slice(),
+            b"db_salvage: report fault\n".as_slice()
+        );
         assert!(rt; TWELVE_LINES.starts_with(done.report.as_slice()));
     }
     Ok(())

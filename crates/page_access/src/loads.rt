@@ -52,7 +52,8 @@ fn read_filled<S: Source>(src: &mut S, start: u64, to: &mut [u8]) -> Result<(), 
 // Reads from `start` on until `to` is full or nothing more comes, and gives how much was read.
 fn read_full<S: Source>(src: &mut S, start: u64, to: &mut [u8]) -> Result<usize, Failed>
     requires { start + length to.old < 2 ^ 64 }
-    ensures value { IfOk result (λ n. IfSome (S.bytes src.old) (λ all. ReadsAt all start n to.new)) }
+    ensures value { IfOk result (λ n. IfSome (S.bytes src.old)
+        (λ all. ReadsAt all start n to.new)) }
     ensures room { IfOk result (λ n. n ≤ length to.new) }
     ensures cause { HasCause (S.faults src.old) (S.faults src.new) result }
     ensures kept { KeepsSource S.bytes S.attached S.faults S.reads src.old src.new }

@@ -77,7 +77,8 @@ pub trait Source {
     /// Reads bytes from `at` on to the front of `to`, and gives how many; 0 at or past the end.
     /// A source that does not tell its bytes may give fewer than there are.
     fn read_at(&mut self, at: u64, to: &mut [u8]) -> Result<usize, Failed>
-        ensures value { IfOk result (λ n. IfSome (bytes self.old) (λ all. ReadsAt all at n to.new)) }
+        ensures value { IfOk result (λ n. IfSome (bytes self.old)
+            (λ all. ReadsAt all at n to.new)) }
         ensures cause { HasCause (faults self.old) (faults self.new) result }
         ensures kept { KeepsSource bytes attached faults reads self.old self.new }
         ensures room { IfOk result (λ n. n ≤ length to.new) }
@@ -107,7 +108,8 @@ pub trait Sink {
 
     /// Puts the piece behind what is there. After an error a prefix of the piece is there.
     fn put(&mut self, piece: &[u8]) -> Result<(), Failed>
-        ensures writes { Writes (bytes self.old) (bytes self.new) (faults self.old) (faults self.new) piece.now result }
+        ensures writes { Writes (bytes self.old) (bytes self.new)
+            (faults self.old) (faults self.new) piece.now result }
         ensures created { created self.new ≡ created self.old }
         ensures finished { finished self.new ≡ false };
 

@@ -103,7 +103,8 @@ impl Sink for MemSink {
 
     fn create(&mut self, name: String) -> Result<(), Failed>
         ensures exactly { IsErr result ↔ IsSome (named_keep self.old) }
-        ensures ok { OnOk result (self.new ≡ record (stepped false self.old) { name = Some (string_bytes name) }) }
+        ensures ok { OnOk result
+            (self.new ≡ record (stepped false self.old) { name = Some (string_bytes name) }) }
         ensures err { OnErr result (self.new ≡ stepped true self.old) }
     {
         if self.next_call().is_some() {
@@ -152,7 +153,8 @@ impl Sink for MemSink {
 
 // How many bytes the call is to keep, where it is one of those that are to fail.
 fn keep_of(fails: &[MemFail], call: u64) -> Option<u64>
-    ensures { result ≡ option_map (λ (f : MemFail). f.keep) (find (λ (f : MemFail). f.call == call) fails.now) }
+    ensures { result ≡ option_map (λ (f : MemFail). f.keep)
+        (find (λ (f : MemFail). f.call == call) fails.now) }
 {
     fails.iter().find(|f| f.call == call).map(|f| f.keep)
 }
@@ -221,7 +223,8 @@ impl Sink for SureSink {
 
     fn create(&mut self, name: String) -> Result<(), Failed>
         ensures succeeds { IsOk result }
-        ensures state { self.new ≡ record self.old { name = Some (string_bytes name); finished = false } }
+        ensures state { self.new
+            ≡ record self.old { name = Some (string_bytes name); finished = false } }
     {
         self.finished = false;
         self.name = Some(name);
@@ -229,7 +232,8 @@ impl Sink for SureSink {
     }
 
     fn put(&mut self, piece: &[u8]) -> Result<(), Failed>
-        ensures exactly { IsErr result ↔ (self.old.room < length self.old.bytes + length piece.now) }
+        ensures exactly { IsErr result
+            ↔ (self.old.room < length self.old.bytes + length piece.now) }
         ensures ok { OnOk result (self.new ≡ record self.old
             { bytes = self.old.bytes ++ piece.now; finished = false }) }
         ensures err { OnErr result (self.new ≡ record self.old

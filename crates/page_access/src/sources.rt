@@ -87,7 +87,8 @@ impl Source for MemSource {
 
     fn attach(&mut self, name: String) -> Result<(), Failed>
         ensures exactly { IsErr result ↔ IsTrue (is_named self.old) }
-        ensures ok { OnOk result (self.new ≡ record (called self.old) { name = Some (string_bytes name) }) }
+        ensures ok { OnOk result
+            (self.new ≡ record (called self.old) { name = Some (string_bytes name) }) }
         ensures err { OnErr result (self.new ≡ called self.old) }
     {
         if self.is_refused() {
@@ -136,7 +137,11 @@ impl Model for SureSource {
 
     ghost Value = { SureState };
 
-    ghost view = { λ s. record { bytes = s.bytes.items; name = option_map string_bytes s.name; reads = s.reads } };
+    ghost view = { λ s. record {
+      bytes = s.bytes.items;
+      name = option_map string_bytes s.name;
+      reads = s.reads;
+    } };
 }
 
 impl SureSource {

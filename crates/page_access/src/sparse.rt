@@ -33,7 +33,8 @@ impl Model for SparseSource {
       reads = s.reads;
     } };
 
-    ghost invariant = { λ s. (1 ≤ s.page_size) × All (λ page. length page.1.items ≡ s.page_size) s.pages.items };
+    ghost invariant = { λ s. (1 ≤ s.page_size)
+        × All (λ page. length page.1.items ≡ s.page_size) s.pages.items };
 }
 
 impl SparseSource {
@@ -82,7 +83,8 @@ impl Source for SparseSource {
 
     fn length(&mut self) -> Result<u64, Failed>
         ensures succeeds { IsOk result }
-        ensures value { IfOk result (λ n. n ≡ length (sparse_bytes self.old.page_size self.old.pages self.old.len)) }
+        ensures value { let s = self.old in
+            IfOk result (λ n. n ≡ length (sparse_bytes s.page_size s.pages s.len)) }
         ensures state { self.new ≡ self.old }
     {
         Ok(self.len)
@@ -90,8 +92,8 @@ impl Source for SparseSource {
 
     fn read_at(&mut self, at: u64, to: &mut [u8]) -> Result<usize, Failed>
         ensures succeeds { IsOk result }
-        ensures value { IfOk result
-            (λ n. ReadsAt (sparse_bytes self.old.page_size self.old.pages self.old.len) at n to.new) }
+        ensures value { let s = self.old in
+            IfOk result (λ n. ReadsAt (sparse_bytes s.page_size s.pages s.len) at n to.new) }
         ensures state { self.new ≡ record self.old { reads = counted self.old.reads } }
     {
         self.reads = counted(self.reads);

@@ -193,7 +193,8 @@ fn sizing_of<S: Source>(
     ensures usable { IfOk result (λ o. IfSome o (λ s. IsUsable s.size s.reserved)) }
     ensures cause { HasCauseOf ReadFault.Source (S.faults src.old) (S.faults src.new) result }
     ensures kept { KeepsSource S.bytes S.attached S.faults S.reads src.old src.new }
-    ensures reads { IfSome (S.bytes src.old) (λ all. length all ≡ len → S.reads src.new ≤ S.reads src.old
+    ensures reads { IfSome (S.bytes src.old) (λ all. length all ≡ len →
+        S.reads src.new ≤ S.reads src.old
         + (if is_none (given_sizing header.now page_size reserved) then len / 256 else 0)) }
 {
     match given_sizing(header, page_size, reserved) {
@@ -220,11 +221,13 @@ pub fn find_geometry<S: Source>(
     ensures exact { IfSome (S.bytes src.old)
         (λ all. length all ≡ len → IsByRule result (rule all page_size reserved)) }
     ensures pages { IfOk result (λ f. f.geometry.pages ≡ len / f.geometry.page_size) }
-    ensures no_whole_page { (n s : ℕ) → IsErrOf result (GeoFault.NoWholePage n s) → (n ≡ len) × (len < s) }
+    ensures no_whole_page { (n s : ℕ) → IsErrOf result (GeoFault.NoWholePage n s) →
+        (n ≡ len) × (len < s) }
     ensures cause { HasCauseOf GeoFault.Source (S.faults src.old) (S.faults src.new) result }
     ensures kept { KeepsSource S.bytes S.attached S.faults S.reads src.old src.new }
-    ensures reads { IfSome (S.bytes src.old) (λ all. length all ≡ len → S.reads src.new ≤ S.reads src.old
-        + 1 + (if is_scored all page_size reserved then len / 256 else 0)) }
+    ensures reads { IfSome (S.bytes src.old) (λ all. length all ≡ len →
+        S.reads src.new ≤ S.reads src.old + 1
+        + (if is_scored all page_size reserved then len / 256 else 0)) }
 {
     let header = header_of_source(src, len, &mut [0; 100])?;
     let Some(sizing) = sizing_of(alloc, src, len, &header, page_size, reserved)? else {

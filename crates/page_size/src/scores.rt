@@ -71,7 +71,8 @@ fn count_plausible<S: Source>(src: &mut S, geo: &Geometry, page: &mut [u8]) -> R
         (λ all. n ≡ plausible_pages all geo.now.page_size geo.now.usable geo.now.pages)) }
     ensures cause { HasCause (S.faults src.old) (S.faults src.new) result }
     ensures kept { KeepsSource S.bytes S.attached S.faults S.reads src.old src.new }
-    ensures reads { IfSome (S.bytes src.old) (λ all. geo.now.pages * geo.now.page_size ≤ length all →
+    ensures reads { IfSome (S.bytes src.old) (λ all.
+        geo.now.pages * geo.now.page_size ≤ length all →
         S.reads src.new ≤ S.reads src.old + geo.now.pages) }
 {
     let mut count = 0;

@@ -23,9 +23,11 @@ pub enum WordsFault {
 
 /// The words of a command line behind the program's name, read as a command.
 pub fn read_words<'a>(alloc: Global, words: &'a [String]) -> Result<Request<'a>, WordsFault>
-    ensures found { IfOk result (λ r. command_of (map string_bytes words.entry.now) ≡ Some (view r)) }
+    ensures found { IfOk result (λ r. command_of (map string_bytes words.entry.now) ≡ Some
+        (view r)) }
     ensures options { IfOk result (λ r. HasOptions r.page_size r.reserved) }
-    ensures usage { IsErrOf result WordsFault.Usage → command_of (map string_bytes words.entry.now) ≡ None }
+    ensures usage { IsErrOf result WordsFault.Usage → command_of
+        (map string_bytes words.entry.now) ≡ None }
 {
     let Ok(command) = command_line(alloc) else {
         return Err(WordsFault::Memory);
@@ -87,7 +89,8 @@ fn asked_of<'a>(
     reserved: Option<&str>,
 ) -> Option<Request<'a>>
     ensures options { IfSome result (λ r. HasOptions r.page_size r.reserved) }
-    ensures value { option_map view result ≡ asked_of (option_map (λ w. w.now) mode.entry) (option_map (λ s. map (λ w. w.now) s.now) words.entry)
+    ensures value { option_map view result ≡ asked_of (option_map (λ w. w.now) mode.entry)
+        (option_map (λ s. map (λ w. w.now) s.now) words.entry)
         (option_map (λ w. w.now) page_size.entry) (option_map (λ w. w.now) reserved.entry) }
 {
     let mode = mode_in(mode?)?;

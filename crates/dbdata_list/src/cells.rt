@@ -26,7 +26,8 @@ pub fn list_data<S: Source, R: Sink>(
     to: &mut R,
 ) -> Result<(), ListFault>
     ensures text { IfSome (S.bytes src.old) (λ all.
-        WritesOf ListFault.Sink (R.bytes to.old) (R.bytes to.new) (R.faults to.old) (R.faults to.new) (data_text (file_of all geo.now)) result) }
+        WritesOf ListFault.Sink (R.bytes to.old) (R.bytes to.new) (R.faults to.old)
+        (R.faults to.new) (data_text (file_of all geo.now)) result) }
     ensures source { HasCauseOf ListFault.Source (S.faults src.old) (S.faults src.new) result }
     ensures sink { HasCauseOf ListFault.Sink (R.faults to.old) (R.faults to.new) result }
     ensures kept { KeepsSource S.bytes S.attached S.faults S.reads src.old src.new }
@@ -53,8 +54,10 @@ fn list_cells<S: Source, R: Sink>(
     requires same_pages { table.old.pages ≡ geo.now.pages }
     requires lists { 7 ≤ length table.old.lists }
     ensures text { IfSome (S.bytes src.old) (λ all.
-        WritesOf ListFault.Sink (R.bytes to.old) (R.bytes to.new) (R.faults to.old) (R.faults to.new) (page_data (file_of all geo.now) page (unused table.old)) result) }
-    ensures left { OnOk result (IfSome (S.bytes src.old) (λ all. unused table.new ≡ left_by (file_of all geo.now) page (unused table.old))) }
+        WritesOf ListFault.Sink (R.bytes to.old) (R.bytes to.new) (R.faults to.old)
+        (R.faults to.new) (page_data (file_of all geo.now) page (unused table.old)) result) }
+    ensures left { OnOk result (IfSome (S.bytes src.old)
+        (λ all. unused table.new ≡ left_by (file_of all geo.now) page (unused table.old))) }
     ensures pages { OnOk result (table.new.pages ≡ table.old.pages) }
     ensures lists_kept { OnOk result (length table.new.lists ≡ length table.old.lists) }
     ensures source { HasCauseOf ListFault.Source (S.faults src.old) (S.faults src.new) result }
@@ -70,7 +73,8 @@ fn list_cells<S: Source, R: Sink>(
 
 // Puts the lines of the cells of a page.
 fn put_cells<R: Sink>(to: &mut R, page: u32, cells: &[CellOutcome]) -> Result<(), Failed>
-    ensures writes { Writes (R.bytes to.old) (R.bytes to.new) (R.faults to.old) (R.faults to.new) (outcomes_text page (map outcome_of cells.now)) result }
+    ensures writes { Writes (R.bytes to.old) (R.bytes to.new) (R.faults to.old) (R.faults to.new)
+        (outcomes_text page (map outcome_of cells.now)) result }
     ensures kept { KeepsSink R.created R.faults to.old to.new }
 {
     for cell in cells {
@@ -81,7 +85,8 @@ fn put_cells<R: Sink>(to: &mut R, page: u32, cells: &[CellOutcome]) -> Result<()
 
 // Puts the lines of a cell.
 fn put_cell<R: Sink>(to: &mut R, page: u32, cell: &CellOutcome) -> Result<(), Failed>
-    ensures writes { Writes (R.bytes to.old) (R.bytes to.new) (R.faults to.old) (R.faults to.new) (outcome_text page (outcome_of cell.now)) result }
+    ensures writes { Writes (R.bytes to.old) (R.bytes to.new) (R.faults to.old) (R.faults to.new)
+        (outcome_text page (outcome_of cell.now)) result }
     ensures kept { KeepsSink R.created R.faults to.old to.new }
 {
     match cell {

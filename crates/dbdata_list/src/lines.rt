@@ -23,7 +23,8 @@ pub(crate) fn put_row<R: Sink>(
     rowid: Option<i64>,
     values: &[Value],
 ) -> Result<(), Failed>
-    ensures writes { Writes (R.bytes to.old) (R.bytes to.new) (R.faults to.old) (R.faults to.new) (row_text page cell rowid values.now) result }
+    ensures writes { Writes (R.bytes to.old) (R.bytes to.new) (R.faults to.old) (R.faults to.new)
+        (row_text page cell rowid values.now) result }
     ensures kept { KeepsSink R.created R.faults to.old to.new }
 {
     put_rowid(to, page, cell, rowid)?;
@@ -32,7 +33,8 @@ pub(crate) fn put_row<R: Sink>(
 
 // Puts the line of the rowid, where there is one.
 fn put_rowid<R: Sink>(to: &mut R, page: u32, cell: u32, rowid: Option<i64>) -> Result<(), Failed>
-    ensures writes { Writes (R.bytes to.old) (R.bytes to.new) (R.faults to.old) (R.faults to.new) (rowid_text page cell rowid) result }
+    ensures writes { Writes (R.bytes to.old) (R.bytes to.new) (R.faults to.old) (R.faults to.new)
+        (rowid_text page cell rowid) result }
     ensures kept { KeepsSink R.created R.faults to.old to.new }
 {
     match rowid {
@@ -43,7 +45,8 @@ fn put_rowid<R: Sink>(to: &mut R, page: u32, cell: u32, rowid: Option<i64>) -> R
 
 // Puts the lines of the fields.
 fn put_fields<R: Sink>(to: &mut R, page: u32, cell: u32, values: &[Value]) -> Result<(), Failed>
-    ensures writes { Writes (R.bytes to.old) (R.bytes to.new) (R.faults to.old) (R.faults to.new) (fields_text page cell 0 values.now) result }
+    ensures writes { Writes (R.bytes to.old) (R.bytes to.new) (R.faults to.old) (R.faults to.new)
+        (fields_text page cell 0 values.now) result }
     ensures kept { KeepsSink R.created R.faults to.old to.new }
 {
     for (field, value) in values.iter().enumerate() {
@@ -60,7 +63,8 @@ fn put_numbered<R: Sink>(
     field: usize,
     value: &Value,
 ) -> Result<(), Failed>
-    ensures writes { Writes (R.bytes to.old) (R.bytes to.new) (R.faults to.old) (R.faults to.new) (field_line page cell (decimal field) value.now) result }
+    ensures writes { Writes (R.bytes to.old) (R.bytes to.new) (R.faults to.old) (R.faults to.new)
+        (field_line page cell (decimal field) value.now) result }
     ensures kept { KeepsSink R.created R.faults to.old to.new }
 {
     put_field(
@@ -81,7 +85,8 @@ pub(crate) fn put_unread<R: Sink>(
     cause: &str,
 ) -> Result<(), Failed>
     requires { length cause.now ≤ 32 }
-    ensures writes { Writes (R.bytes to.old) (R.bytes to.new) (R.faults to.old) (R.faults to.new) (unread_line page cell cause.now) result }
+    ensures writes { Writes (R.bytes to.old) (R.bytes to.new) (R.faults to.old) (R.faults to.new)
+        (unread_line page cell cause.now) result }
     ensures kept { KeepsSink R.created R.faults to.old to.new }
 {
     let mut line = place(page, cell);
@@ -94,7 +99,8 @@ pub(crate) fn put_unread<R: Sink>(
 /// Puts the line of a page number that a page names.
 #[tactic(auto, unfolding(crate::specs::Text::pointer_line))]
 pub(crate) fn put_pointer<R: Sink>(to: &mut R, page: u32, child: u32) -> Result<(), Failed>
-    ensures writes { Writes (R.bytes to.old) (R.bytes to.new) (R.faults to.old) (R.faults to.new) (pointer_line page child) result }
+    ensures writes { Writes (R.bytes to.old) (R.bytes to.new) (R.faults to.old) (R.faults to.new)
+        (pointer_line page child) result }
     ensures kept { KeepsSink R.created R.faults to.old to.new }
 {
     let mut line = Line::new();
@@ -115,7 +121,8 @@ fn put_field<R: Sink>(
     value: &Value,
 ) -> Result<(), Failed>
     requires { length field.now ≤ 20 }
-    ensures writes { Writes (R.bytes to.old) (R.bytes to.new) (R.faults to.old) (R.faults to.new) (field_line page cell field.now value.now) result }
+    ensures writes { Writes (R.bytes to.old) (R.bytes to.new) (R.faults to.old) (R.faults to.new)
+        (field_line page cell field.now value.now) result }
     ensures kept { KeepsSink R.created R.faults to.old to.new }
 {
     match value {
@@ -131,7 +138,8 @@ fn put_field<R: Sink>(
 #[tactic(auto, unfolding(crate::specs::Text::field_line))]
 fn put_null<R: Sink>(to: &mut R, page: u32, cell: u32, field: &[u8]) -> Result<(), Failed>
     requires { length field.now ≤ 20 }
-    ensures writes { Writes (R.bytes to.old) (R.bytes to.new) (R.faults to.old) (R.faults to.new) (field_line page cell field.now Null) result }
+    ensures writes { Writes (R.bytes to.old) (R.bytes to.new) (R.faults to.old) (R.faults to.new)
+        (field_line page cell field.now Null) result }
     ensures kept { KeepsSink R.created R.faults to.old to.new }
 {
     let mut line = head(page, cell, field);
@@ -149,7 +157,8 @@ fn put_whole<R: Sink>(
     number: i64,
 ) -> Result<(), Failed>
     requires { length field.now ≤ 20 }
-    ensures writes { Writes (R.bytes to.old) (R.bytes to.new) (R.faults to.old) (R.faults to.new) (field_line page cell field.now (Whole number)) result }
+    ensures writes { Writes (R.bytes to.old) (R.bytes to.new) (R.faults to.old) (R.faults to.new)
+        (field_line page cell field.now (Whole number)) result }
     ensures kept { KeepsSink R.created R.faults to.old to.new }
 {
     put_word(
@@ -174,7 +183,8 @@ fn put_word<R: Sink>(
 ) -> Result<(), Failed>
     requires field { length field.now ≤ 20 }
     requires word { length name.now + length word.now ≤ 64 }
-    ensures writes { Writes (R.bytes to.old) (R.bytes to.new) (R.faults to.old) (R.faults to.new) (word_line page cell field.now name.now word.now) result }
+    ensures writes { Writes (R.bytes to.old) (R.bytes to.new) (R.faults to.old) (R.faults to.new)
+        (word_line page cell field.now name.now word.now) result }
     ensures kept { KeepsSink R.created R.faults to.old to.new }
 {
     let mut line = head(page, cell, field);
@@ -214,7 +224,8 @@ fn put_name<R: Sink>(
 ) -> Result<(), Failed>
     requires field { length field.now ≤ 20 }
     requires name { length name.now ≤ 8 }
-    ensures writes { Writes (R.bytes to.old) (R.bytes to.new) (R.faults to.old) (R.faults to.new) (field_text page cell field.now ++ name.now) result }
+    ensures writes { Writes (R.bytes to.old) (R.bytes to.new) (R.faults to.old) (R.faults to.new)
+        (field_text page cell field.now ++ name.now) result }
     ensures kept { KeepsSink R.created R.faults to.old to.new }
 {
     let mut line = head(page, cell, field);
@@ -224,7 +235,8 @@ fn put_name<R: Sink>(
 
 // Puts the bytes in hexadecimal digits.
 fn put_hex<R: Sink>(to: &mut R, bytes: &[u8]) -> Result<(), Failed>
-    ensures writes { Writes (R.bytes to.old) (R.bytes to.new) (R.faults to.old) (R.faults to.new) (encode_lower bytes.now) result }
+    ensures writes { Writes (R.bytes to.old) (R.bytes to.new) (R.faults to.old) (R.faults to.new)
+        (encode_lower bytes.now) result }
     ensures kept { KeepsSink R.created R.faults to.old to.new }
 {
     let mut rest = bytes;
@@ -239,7 +251,8 @@ fn put_hex<R: Sink>(to: &mut R, bytes: &[u8]) -> Result<(), Failed>
 // Puts a few bytes in hexadecimal digits.
 fn put_digits<R: Sink>(to: &mut R, bytes: &[u8]) -> Result<(), Failed>
     requires { length bytes.now ≤ 64 }
-    ensures writes { Writes (R.bytes to.old) (R.bytes to.new) (R.faults to.old) (R.faults to.new) (encode_lower bytes.now) result }
+    ensures writes { Writes (R.bytes to.old) (R.bytes to.new) (R.faults to.old) (R.faults to.new)
+        (encode_lower bytes.now) result }
     ensures kept { KeepsSink R.created R.faults to.old to.new }
 {
     let mut digits = [0; 128];

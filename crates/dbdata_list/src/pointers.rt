@@ -20,7 +20,8 @@ pub fn list_pointers<S: Source, R: Sink>(
     to: &mut R,
 ) -> Result<(), ListFault>
     ensures text { IfSome (S.bytes src.old) (λ all.
-        WritesOf ListFault.Sink (R.bytes to.old) (R.bytes to.new) (R.faults to.old) (R.faults to.new) (pointers_text (file_of all geo.now)) result) }
+        WritesOf ListFault.Sink (R.bytes to.old) (R.bytes to.new) (R.faults to.old)
+        (R.faults to.new) (pointers_text (file_of all geo.now)) result) }
     ensures source { HasCauseOf ListFault.Source (S.faults src.old) (S.faults src.new) result }
     ensures sink { HasCauseOf ListFault.Sink (R.faults to.old) (R.faults to.new) result }
     ensures kept { KeepsSource S.bytes S.attached S.faults S.reads src.old src.new }
@@ -43,7 +44,8 @@ fn list_page<S: Source, R: Sink>(
     requires page_least { 1 ≤ page }
     requires page_most { page ≤ geo.now.pages }
     ensures text { IfSome (S.bytes src.old) (λ all.
-        WritesOf ListFault.Sink (R.bytes to.old) (R.bytes to.new) (R.faults to.old) (R.faults to.new) (page_pointers (file_of all geo.now) page) result) }
+        WritesOf ListFault.Sink (R.bytes to.old) (R.bytes to.new) (R.faults to.old)
+        (R.faults to.new) (page_pointers (file_of all geo.now) page) result) }
     ensures source { HasCauseOf ListFault.Source (S.faults src.old) (S.faults src.new) result }
     ensures sink { HasCauseOf ListFault.Sink (R.faults to.old) (R.faults to.new) result }
     ensures kept { KeepsSource S.bytes S.attached S.faults S.reads src.old src.new }
@@ -57,7 +59,8 @@ fn list_page<S: Source, R: Sink>(
 
 // Puts a line for each of the children.
 fn put_pointers<R: Sink>(to: &mut R, page: u32, children: &[u32]) -> Result<(), Failed>
-    ensures writes { Writes (R.bytes to.old) (R.bytes to.new) (R.faults to.old) (R.faults to.new) (pointer_lines page children.now) result }
+    ensures writes { Writes (R.bytes to.old) (R.bytes to.new) (R.faults to.old) (R.faults to.new)
+        (pointer_lines page children.now) result }
     ensures kept { KeepsSink R.created R.faults to.old to.new }
 {
     for child in children {

@@ -22,7 +22,8 @@ pub(crate) fn find_pages<S: Source>(
     src: &mut S,
 ) -> Result<Option<Found>, Fault>
     requires { HasOptions request.now.page_size request.now.reserved }
-    ensures told { IfSome (S.bytes src.old) (λ all. FindsPages result (pages_of (view request.now) all)) }
+    ensures told { IfSome (S.bytes src.old)
+        (λ all. FindsPages result (pages_of (view request.now) all)) }
     ensures numbers { IsOfInput result }
     ensures source { HasCauseOf Fault.InputFault (S.faults src.old) (S.faults src.new) result }
     ensures kept { KeepsSource S.bytes S.attached S.faults S.reads src.old src.new }

@@ -15,7 +15,8 @@ type Line = ArrayVec<u8, 128>;
 /// Puts the line of a refusal.
 #[tactic(auto, unfolding(crate::specs::Answers::fault_line))]
 pub(crate) fn put_fault<E: Sink>(to: &mut E, fault: &Fault) -> Result<(), Failed>
-    ensures writes { Writes (E.bytes to.old) (E.bytes to.new) (E.faults to.old) (E.faults to.new) (fault_line fault.now) result }
+    ensures writes { Writes (E.bytes to.old) (E.bytes to.new) (E.faults to.old) (E.faults to.new)
+        (fault_line fault.now) result }
     ensures kept { KeepsSink E.created E.faults to.old to.new }
 {
     put_named(to, b"db_salvage: ", fault)
@@ -24,7 +25,8 @@ pub(crate) fn put_fault<E: Sink>(to: &mut E, fault: &Fault) -> Result<(), Failed
 // Puts the line of a refusal behind the program's name.
 fn put_named<E: Sink>(to: &mut E, name: &[u8], fault: &Fault) -> Result<(), Failed>
     requires { length name.now ≤ 12 }
-    ensures writes { Writes (E.bytes to.old) (E.bytes to.new) (E.faults to.old) (E.faults to.new) (name.now ++ (fault_text fault.now ++ newline)) result }
+    ensures writes { Writes (E.bytes to.old) (E.bytes to.new) (E.faults to.old) (E.faults to.new)
+        (name.now ++ (fault_text fault.now ++ newline)) result }
     ensures kept { KeepsSink E.created E.faults to.old to.new }
 {
     let mut line = Line::new();
@@ -64,7 +66,8 @@ fn add_text(line: &mut Line, fault: &Fault)
 // Adds a number between two words.
 fn add_number(line: &mut Line, before: &[u8], number: u64, behind: &[u8])
     requires { array_vec_len line.old + length before.now + length behind.now ≤ 100 }
-    ensures text { line.new.items ≡ line.old.items ++ (before.now ++ (decimal number ++ behind.now)) }
+    ensures text { line.new.items ≡ line.old.items ++
+        (before.now ++ (decimal number ++ behind.now)) }
     ensures len { array_vec_len line.new ≤ array_vec_len line.old + length before.now + length behind.now + 20 }
 {
     add(line, before);
@@ -75,7 +78,8 @@ fn add_number(line: &mut Line, before: &[u8], number: u64, behind: &[u8])
 // Adds two numbers, each behind a word.
 fn add_numbers(line: &mut Line, first: &[u8], len: u64, second: &[u8], size: u32)
     requires { array_vec_len line.old + length first.now + length second.now ≤ 80 }
-    ensures text { line.new.items ≡ line.old.items ++ (first.now ++ (decimal len ++ (second.now ++ decimal size))) }
+    ensures text { line.new.items ≡ line.old.items ++
+        (first.now ++ (decimal len ++ (second.now ++ decimal size))) }
     ensures len { array_vec_len line.new ≤ array_vec_len line.old + length first.now + length second.now + 40 }
 {
     add_number(line, first, len, second);

@@ -22,7 +22,9 @@ pub(crate) fn list<S: Source, R: Sink>(
     report: &mut R,
 ) -> Result<(), Fault>
     requires { HasOptions request.now.page_size request.now.reserved }
-    ensures told { IfSome (S.bytes src.old) (λ all. GivesWanted (wanted (view request.now) all) (R.bytes report.old) (R.bytes report.new) result) }
+    ensures told { IfSome (S.bytes src.old)
+        (λ all. GivesWanted (wanted (view request.now) all) (R.bytes report.old)
+        (R.bytes report.new) result) }
     ensures name { OnOk result (S.attached src.new ≡ Some request.now.input.now) }
     ensures finished { OnOk result (R.finished report.new ≡ true) }
     ensures early { IsEarly result → report.new ≡ report.old }
@@ -57,7 +59,9 @@ fn put_all<S: Source, R: Sink>(
     src: &mut S,
     report: &mut R,
 ) -> Result<(), Fault>
-    ensures text { IfSome (S.bytes src.old) (λ all. GivesWanted (Ok (listing_of mode (file_of all geo.now))) (R.bytes report.old) (R.bytes report.new) result) }
+    ensures text { IfSome (S.bytes src.old)
+        (λ all. GivesWanted (Ok (listing_of mode (file_of all geo.now))) (R.bytes report.old)
+        (R.bytes report.new) result) }
     ensures finished { OnOk result (R.finished report.new ≡ true) }
     ensures source { HasCauseOf Fault.InputFault (S.faults src.old) (S.faults src.new) result }
     ensures sink { HasCauseOf Fault.ReportFault (R.faults report.old) (R.faults report.new) result }
@@ -77,7 +81,8 @@ fn put_listing<S: Source, R: Sink>(
     report: &mut R,
 ) -> Result<(), Fault>
     ensures text { IfSome (S.bytes src.old) (λ all.
-        WritesOf Fault.ReportFault (R.bytes report.old) (R.bytes report.new) (R.faults report.old) (R.faults report.new) (listing_of mode (file_of all geo.now)) result) }
+        WritesOf Fault.ReportFault (R.bytes report.old) (R.bytes report.new) (R.faults report.old)
+        (R.faults report.new) (listing_of mode (file_of all geo.now)) result) }
     ensures source { HasCauseOf Fault.InputFault (S.faults src.old) (S.faults src.new) result }
     ensures sink { HasCauseOf Fault.ReportFault (R.faults report.old) (R.faults report.new) result }
     ensures kept { KeepsSource S.bytes S.attached S.faults S.reads src.old src.new }

@@ -26,31 +26,41 @@ pub fn run<S: Source, O: Sink, T: Sink, R: Sink, E: Sink>(
 ) -> u8
     // the words are no command
     ensures usage { result ≡ 2 → command_of (map string_bytes words.now) ≡ None }
-    ensures no_command { command_of (map string_bytes words.now) ≡ None → (result ≡ 2) ⊎ (result ≡ 11) }
+    ensures no_command { command_of (map string_bytes words.now) ≡ None → (result ≡ 2) ⊎
+        (result ≡ 11) }
 
     // done
-    ensures name { result ≡ 0 → IsAttached (command_of (map string_bytes words.now)) (S.attached src.new) }
+    ensures name { result ≡ 0 → IsAttached (command_of (map string_bytes words.now))
+        (S.attached src.new) }
     ensures finished { result ≡ 0 → R.finished report.new ≡ true }
     ensures listing { result ≡ 0 → IfSome (S.bytes src.old) (λ all.
-        IsListed (wanted_of (command_of (map string_bytes words.now)) all) (R.bytes report.old) (R.bytes report.new)) }
+        IsListed (wanted_of (command_of (map string_bytes words.now)) all) (R.bytes report.old)
+        (R.bytes report.new)) }
 
     // refused: only by its cause
-    ensures status { IfSome (S.bytes src.old) (λ all. IsStatusOf (wanted_of (command_of (map string_bytes words.now)) all) result) }
-    ensures complete { IfSome (S.bytes src.old) (λ all. IsOk (wanted_of (command_of (map string_bytes words.now)) all)
-        → (Rose (S.faults src.old) (S.faults src.new) → ⊥) → (Rose (R.faults report.old) (R.faults report.new) → ⊥)
+    ensures status { IfSome (S.bytes src.old)
+        (λ all. IsStatusOf (wanted_of (command_of (map string_bytes words.now)) all) result) }
+    ensures complete { IfSome (S.bytes src.old)
+        (λ all. IsOk (wanted_of (command_of (map string_bytes words.now)) all)
+        → (Rose (S.faults src.old) (S.faults src.new) → ⊥) →
+        (Rose (R.faults report.old) (R.faults report.new) → ⊥)
         → (result ≡ 0) ⊎ (result ≡ 11)) }
     ensures too_large { IfSome (S.bytes src.old) (λ all. result ≡ 5 → 2 ^ 28 < length all) }
-    ensures no_pages { IfSome (S.bytes src.old) (λ all. result ≡ 4 → HasNoPages (wanted_of (command_of (map string_bytes words.now)) all)) }
+    ensures no_pages { IfSome (S.bytes src.old)
+        (λ all. result ≡ 4 → HasNoPages (wanted_of (command_of (map string_bytes words.now)) all)) }
     ensures input_fault { result ≡ 3 → Rose (S.faults src.old) (S.faults src.new) }
     ensures report_fault { result ≡ 9 → Rose (R.faults report.old) (R.faults report.new) }
-    ensures answered { Answered (command_of (map string_bytes words.now)) (S.bytes src.old) (R.bytes report.old) (R.bytes report.new)
-        (E.bytes errors.old) (E.bytes errors.new) (E.faults errors.old) (E.faults errors.new) result }
+    ensures answered { Answered (command_of (map string_bytes words.now)) (S.bytes src.old)
+        (R.bytes report.old) (R.bytes report.new)
+        (E.bytes errors.old) (E.bytes errors.new) (E.faults errors.old)
+        (E.faults errors.new) result }
 
     // what stays
     ensures source_kept { result ≡ 2 → src.new ≡ src.old }
     ensures report_kept { IsEarlyStatus result → report.new ≡ report.old }
     ensures report_front { IfSome (S.bytes src.old) (λ all.
-        GainsPrefix (R.bytes report.old) (R.bytes report.new) (text_of (wanted_of (command_of (map string_bytes words.now)) all))) }
+        GainsPrefix (R.bytes report.old) (R.bytes report.new)
+        (text_of (wanted_of (command_of (map string_bytes words.now)) all))) }
     ensures out_kept { out.new ≡ out.old }
     ensures script_kept { script.new ≡ script.old }
     ensures errors_kept { result ≡ 0 → errors.new ≡ errors.old }
@@ -69,8 +79,11 @@ fn answer<S: Source, R: Sink>(
 ) -> Result<(), Fault>
     ensures usage { IsErrOf result Fault.Usage → command_of (map string_bytes words.now) ≡ None }
     ensures no_command { command_of (map string_bytes words.now) ≡ None → IsNoCommand result }
-    ensures told { IfSome (S.bytes src.old) (λ all. GivesCommand (command_of (map string_bytes words.now)) all (R.bytes report.old) (R.bytes report.new) result) }
-    ensures name { OnOk result (IsAttached (command_of (map string_bytes words.now)) (S.attached src.new)) }
+    ensures told { IfSome (S.bytes src.old)
+        (λ all. GivesCommand (command_of (map string_bytes words.now)) all (R.bytes report.old)
+        (R.bytes report.new) result) }
+    ensures name { OnOk result (IsAttached (command_of (map string_bytes words.now))
+        (S.attached src.new)) }
     ensures finished { OnOk result (R.finished report.new ≡ true) }
     ensures early { IsEarly result → report.new ≡ report.old }
     ensures unasked { command_of (map string_bytes words.now) ≡ None → report.new ≡ report.old }
@@ -100,7 +113,8 @@ fn status(answer: &Result<(), Fault>) -> u8
 
 // Says what went wrong, if anything; a fault in this changes no status.
 fn tell<E: Sink>(errors: &mut E, answer: &Result<(), Fault>)
-    ensures said { Says answer.now (E.bytes errors.old) (E.bytes errors.new) (E.faults errors.old) (E.faults errors.new) }
+    ensures said { Says answer.now (E.bytes errors.old) (E.bytes errors.new) (E.faults errors.old)
+        (E.faults errors.new) }
     ensures nothing { IsOk answer.now → errors.new ≡ errors.old }
 {
     if let Err(fault) = answer {

@@ -13,6 +13,9 @@ ghost use Rattle.record_core.specs.declared.values.Value.{Value};
 use record_core::{Fields, Value};
 use std::cmp::Ordering;
 
+#[cfg(test)]
+mod tests;
+
 /// A collation: how texts are compared.
 #[derive(Debug, Clone, Copy, PartialEq, Eq)]
 pub enum Coll {
@@ -125,9 +128,9 @@ fn text_order(a: &[u8], b: &[u8], coll: Coll) -> Ordering
 fn order_without_case(a: &[u8], b: &[u8]) -> Ordering
     ensures { result ≡ on str_to_ascii_lowercase (slice_cmp nat_cmp) a.now b.now }
 {
-    a.iter()
-        .map(|byte| byte.to_ascii_lowercase())
-        .cmp(b.iter().map(|byte| byte.to_ascii_lowercase()))
+    let first = a.iter().map(|byte| byte.to_ascii_lowercase());
+    let second = b.iter().map(|byte| byte.to_ascii_lowercase());
+    first.cmp(second)
 }
 
 fn without_end_spaces(text: &[u8]) -> &[u8]

@@ -9,7 +9,7 @@ use Rattle.key_order.proofs.order_without_case.Goals as goal
 pub returns : goal.returns
 returns c = cmp_from_yields_List (λ x y. y ≡ x) _ nat_cmp _ c.cmp.ensures.ran
     (YieldsList-from_map _ to_ascii_lowercase (YieldsList-from_slice c.args.a.now cc)
-    c.map.ensures.closure (λ x r q k. search rules))
+    c.map-first.ensures.closure (λ x r q k. search rules))
     (λ it e. YieldsList-from_map _ to_ascii_lowercase (YieldsList-from_slice c.args.b.now cc)
-    (ap map_callee e ∙ c.map-2.ensures.closure) (λ x r q k. search rules))
+    (ap map_callee e ∙ c.map-second.ensures.closure) (λ x r q k. search rules))
     (λ x y. refl)

@@ -43,7 +43,8 @@ fn read_rest<S: Source>(
     requires same_pages { table.old.pages ≡ geo.now.pages }
     requires lists { 7 ≤ length table.old.lists }
     requires local { view.now.local_start ≤ view.now.local_end }
-    requires overflow { HasOverflow view.now.overflow (view.now.local_end - view.now.local_start) view.now.total }
+    requires overflow { HasOverflow view.now.overflow
+        (view.now.local_end - view.now.local_start) view.now.total }
     requires most { view.now.total ≤ geo.now.pages * geo.now.usable }
     ensures value { IfOk result (λ end. IfSome (S.bytes src.old)
         (λ all. RestTaken (file_of all geo.now) view.now table.old table.new
@@ -106,13 +107,15 @@ fn take_entry<S: Source>(
     requires lists { 7 ≤ length table.old.lists }
     requires local { view.now.local_start ≤ view.now.local_end }
     requires within { view.now.local_end ≤ length page.now }
-    requires overflow { HasOverflow view.now.overflow (view.now.local_end - view.now.local_start) view.now.total }
+    requires overflow { HasOverflow view.now.overflow
+        (view.now.local_end - view.now.local_start) view.now.total }
     requires most { view.now.total ≤ geo.now.pages * geo.now.usable }
     ensures value { IfOk result (λ o. IfSome (S.bytes src.old)
         (λ all. outcome_of o ≡ entry_at (file_of all geo.now) page.now place.page place.cell view.now
         (unused table.old))) }
     ensures moved { IfOk result (λ o. table.new ≡ all_moved (chain_of (outcome_of o)) 4 table.old) }
-    ensures small { IfOk result (λ o. IsSmall geo.now.usable geo.now.pages place.page (outcome_of o)) }
+    ensures small { IfOk result (λ o. IsSmall geo.now.usable geo.now.pages place.page
+        (outcome_of o)) }
     ensures cause { HasCauseOf faults.Source (S.faults src.old) (S.faults src.new) result }
     ensures kept { KeepsSource S.bytes S.attached S.faults S.reads src.old src.new }
     ensures moves { Moves 4 table.old table.new }

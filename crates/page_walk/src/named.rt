@@ -61,7 +61,8 @@ pub fn pointers<S: Source>(
     ensures cause { HasCauseOf ReadFault.Source (S.faults src.old) (S.faults src.new) result }
     ensures kept { KeepsSource S.bytes S.attached S.faults S.reads src.old src.new }
     ensures bound { length to.new.items ≤ length to.old.items + geo.now.usable / 2 }
-    ensures reads { IfSome (S.bytes src.old) (λ all. IsWhole all geo.now → S.reads src.new ≤ S.reads src.old + 1) }
+    ensures reads { IfSome (S.bytes src.old)
+        (λ all. IsWhole all geo.now → S.reads src.new ≤ S.reads src.old + 1) }
 {
     let bytes = load_page(alloc, src, geo, page)?;
     let Some(shape) = shape(&bytes, page, geo) else {

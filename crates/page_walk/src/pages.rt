@@ -16,11 +16,13 @@ pub fn load_page<S: Source>(
 ) -> Result<Vec<u8>, ReadFault>
     requires page_least { 1 ≤ page }
     requires page_most { page ≤ geo.now.pages }
-    ensures page { IfOk result (λ v. IfSome (S.bytes src.old) (λ all. v.items ≡ page_at (file_of all geo.now) page)) }
+    ensures page { IfOk result (λ v. IfSome (S.bytes src.old)
+        (λ all. v.items ≡ page_at (file_of all geo.now) page)) }
     ensures len { IfOk result (λ v. length v.items ≡ geo.now.page_size) }
     ensures cause { HasCauseOf ReadFault.Source (S.faults src.old) (S.faults src.new) result }
     ensures kept { KeepsSource S.bytes S.attached S.faults S.reads src.old src.new }
-    ensures reads { IfSome (S.bytes src.old) (λ all. IsWhole all geo.now → S.reads src.new ≤ S.reads src.old + 1) }
+    ensures reads { IfSome (S.bytes src.old)
+        (λ all. IsWhole all geo.now → S.reads src.new ≤ S.reads src.old + 1) }
 {
     let mut bytes = vec![in alloc; 0; geo.page_size as usize]?;
     load(src, geo, page, bytes.as_mut_slice())?;

@@ -8,4 +8,5 @@ mod pointers;
 
 pub use cells::list_data;
 pub use faults::ListFault;
+pub use lines::{Line, add};
 pub use pointers::list_pointers;

@@ -12,8 +12,8 @@ use itoa::Buffer;
 use page_access::{Failed, Sink};
 use record_core::Value;
 
-/// A line, or its beginning: three numbers, a short word and spaces between them.
-type Line = ArrayVec<u8, 128>;
+/// A line, or its beginning: a few numbers and short words, 128 bytes at most.
+pub type Line = ArrayVec<u8, 128>;
 
 /// Puts the lines of a row: its rowid, then its fields.
 pub(crate) fn put_row<R: Sink>(
@@ -288,8 +288,8 @@ fn place(page: u32, cell: u32) -> Line
     line
 }
 
-// Adds a word to a line.
-fn add(line: &mut Line, word: &[u8])
+/// Adds a word to a line that has room for it.
+pub fn add(line: &mut Line, word: &[u8])
     requires { array_vec_len line.old + length word.now ≤ 128 }
     ensures text { line.new.items ≡ line.old.items ++ word.now }
     ensures len { array_vec_len line.new ≡ array_vec_len line.old + length word.now }

@@ -1,7 +1,8 @@
 -- Statuses and their lines (docs/TEXTS.md, "Statuses").
-use Rattle.std.specs.Prelude.{ℕ, List, [], ◌∷◌, ◌++◌, codes, decimal, Result, Ok, Err}
+use Rattle.std.specs.Prelude.{ℕ, List, ◌++◌, codes, decimal, Result, Ok, Err}
 use Rattle.command_line.specs.declared.words.WordsFault.{WordsFault}
 use Rattle.command_line.specs.declared.words.WordsFault.TheVariants as words
+use Rattle.dbdata_list.specs.Text.{newline}
 use Rattle.dbdata_list.specs.declared.faults.ListFault.{ListFault}
 use Rattle.dbdata_list.specs.declared.faults.ListFault.TheVariants as list
 use Rattle.page_access.specs.declared.outside.ReadFault.{ReadFault}
@@ -58,10 +59,6 @@ fault_text NoPageSize = codes "no page size found"
 fault_text (NoWholePage len size) = codes "no whole page: " ++ (decimal len ++ (codes " bytes, page size " ++ decimal size))
 fault_text ReportFault = codes "report fault"
 fault_text Memory = codes "out of memory"
-
--- the end of a line
-abbrev pub newline : List ℕ
-newline = 10 ∷ []
 
 -- the line of a refusal
 unfoldable pub fault_line : Fault → List ℕ

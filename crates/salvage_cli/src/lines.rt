@@ -2,15 +2,13 @@
 ghost use Rattle.std.specs.Prelude.{◌≡◌, ◌≤◌, ◌+◌, ◌++◌, length, decimal};
 ghost use Rattle.arrayvec.specs.ArrayVec.{array_vec_len};
 ghost use Rattle.page_access.specs.Outside.{KeepsSink, Writes};
-ghost use Rattle.salvage_cli.specs.Answers.{fault_line, fault_text, newline};
+ghost use Rattle.dbdata_list.specs.Text.{newline};
+ghost use Rattle.salvage_cli.specs.Answers.{fault_line, fault_text};
 
 use crate::faults::Fault;
-use arrayvec::ArrayVec;
+use dbdata_list::{Line, add};
 use itoa::Buffer;
 use page_access::{Failed, Sink};
-
-// A line: the longest one is that of the words' use.
-type Line = ArrayVec<u8, 128>;
 
 /// Puts the line of a refusal.
 #[tactic(auto, unfolding(crate::specs::Answers::fault_line))]
@@ -84,13 +82,4 @@ fn add_numbers(line: &mut Line, first: &[u8], len: u64, second: &[u8], size: u32
 {
     add_number(line, first, len, second);
     add(line, Buffer::new().format(size).as_bytes());
-}
-
-// Adds a word to a line.
-fn add(line: &mut Line, word: &[u8])
-    requires { array_vec_len line.old + length word.now ≤ 128 }
-    ensures text { line.new.items ≡ line.old.items ++ word.now }
-    ensures len { array_vec_len line.new ≡ array_vec_len line.old + length word.now }
-{
-    line.try_extend_from_slice(word).unwrap();
 }

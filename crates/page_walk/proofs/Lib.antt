@@ -1,5 +1,13 @@
+pub mod Found
 pub mod Going
+pub mod Levels
 pub mod Names
+pub mod Queue
 pub mod Small
 pub mod Sorting
+pub mod Surveying
+pub mod Taken
+pub mod Taking
+pub mod Trees
+pub mod Walking
 pub mod Witness

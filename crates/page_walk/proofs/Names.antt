@@ -112,30 +112,30 @@ pointers_interior f p shape right has some = ap (pointers_with f p) has ∙ by_l
         ++ option_to_list (right_of (page_at f p) shape) = rw e refl in
         there ∙ ap (λ o. children_in (page_at f p) f.usable f.pages shape ++ option_to_list o) some
 
--- the same over the bytes that a source tells, where it does; b1, b2, b3 are borrows of the page
-pub told_leaf : (o : Option (List ℕ)) (geo : Geometry) (p : ℕ) (shape : PageShape) (bytes b1 b2 old : List ℕ)
-    → IfSome o (λ all. bytes ≡ page_at (file_of all geo) p) → b1 ≡ bytes → b2 ≡ bytes
-    → shape_of b1 p geo.usable ≡ Some shape → right_of b2 shape ≡ None
+-- the same over the bytes that a source tells, where it does
+pub told_leaf : (o : Option (List ℕ)) (geo : Geometry) (p : ℕ) (shape : PageShape) (bytes old : List ℕ)
+    → IfSome o (λ all. bytes ≡ page_at (file_of all geo) p)
+    → shape_of bytes p geo.usable ≡ Some shape → right_of bytes shape ≡ None
     → IfSome o (λ all. old ≡ old ++ pointers_on (file_of all geo) p)
-told_leaf None geo p shape bytes b1 b2 old page e1 e2 has none = tt
-told_leaf (Some all) geo p shape bytes b1 b2 old page e1 e2 has none =
+told_leaf None geo p shape bytes old page has none = tt
+told_leaf (Some all) geo p shape bytes old page has none =
     let f : File = file_of all geo in
-    let there : shape_on f p ≡ Some shape = ap (λ b. shape_of b p geo.usable) (sym page ∙ sym e1) ∙ has in
-    let leaf : right_of (page_at f p) shape ≡ None = ap (λ b. right_of b shape) (sym page ∙ sym e2) ∙ none in
+    let there : shape_on f p ≡ Some shape = ap (λ b. shape_of b p geo.usable) (sym page) ∙ has in
+    let leaf : right_of (page_at f p) shape ≡ None = ap (λ b. right_of b shape) (sym page) ∙ none in
     sym (append-nil old) ∙ ap (λ xs. old ++ xs) (sym (pointers_leaf f p shape there leaf))
 
-pub told_interior : (o : Option (List ℕ)) (geo : Geometry) (p : ℕ) (shape : PageShape) (bytes b1 b2 b3 old now : List ℕ) (right : ℕ)
-    → IfSome o (λ all. bytes ≡ page_at (file_of all geo) p) → b1 ≡ bytes → b2 ≡ bytes → b3 ≡ bytes
-    → shape_of b1 p geo.usable ≡ Some shape → right_of b2 shape ≡ Some right
-    → now ≡ old ++ children_in b3 geo.usable geo.pages shape
+pub told_interior : (o : Option (List ℕ)) (geo : Geometry) (p : ℕ) (shape : PageShape) (bytes old now : List ℕ) (right : ℕ)
+    → IfSome o (λ all. bytes ≡ page_at (file_of all geo) p)
+    → shape_of bytes p geo.usable ≡ Some shape → right_of bytes shape ≡ Some right
+    → now ≡ old ++ children_in bytes geo.usable geo.pages shape
     → IfSome o (λ all. now ++ right ∷ [] ≡ old ++ pointers_on (file_of all geo) p)
-told_interior None geo p shape bytes b1 b2 b3 old now right page e1 e2 e3 has some pushed = tt
-told_interior (Some all) geo p shape bytes b1 b2 b3 old now right page e1 e2 e3 has some pushed =
+told_interior None geo p shape bytes old now right page has some pushed = tt
+told_interior (Some all) geo p shape bytes old now right page has some pushed =
     let f : File = file_of all geo in
-    let there : shape_on f p ≡ Some shape = ap (λ b. shape_of b p geo.usable) (sym page ∙ sym e1) ∙ has in
-    let last : right_of (page_at f p) shape ≡ Some right = ap (λ b. right_of b shape) (sym page ∙ sym e2) ∙ some in
-    let same : children_in b3 geo.usable geo.pages shape ≡ children_in (page_at f p) geo.usable geo.pages shape =
-    ap (λ b. children_in b geo.usable geo.pages shape) (e3 ∙ page) in
+    let there : shape_on f p ≡ Some shape = ap (λ b. shape_of b p geo.usable) (sym page) ∙ has in
+    let last : right_of (page_at f p) shape ≡ Some right = ap (λ b. right_of b shape) (sym page) ∙ some in
+    let same : children_in bytes geo.usable geo.pages shape ≡ children_in (page_at f p) geo.usable geo.pages shape =
+    ap (λ b. children_in b geo.usable geo.pages shape) page in
     ap (λ xs. xs ++ right ∷ []) (pushed ∙ ap (λ xs. old ++ xs) same)
     ∙ append_assoc old (children_in (page_at f p) geo.usable geo.pages shape) (right ∷ [])
     ∙ ap (λ xs. old ++ xs) (sym (pointers_interior f p shape right there last))

@@ -130,7 +130,7 @@ pub readable_have_evidence : ReadableHaveEvidence
 readable_have_evidence f p unused once = shape_evidence f p unused (shape_on f p) once refl
 
 -- the unused pages of a table are pages of the file, each once
-unused_once : (t : Table) (pages : ℕ) → IsPartition t → t.pages ≡ pages → AreOnce pages (unused t)
+pub unused_once : (t : Table) (pages : ℕ) → IsPartition t → t.pages ≡ pages → AreOnce pages (unused t)
 unused_once t pages each same q =
     subst (λ (n : ℕ). count q (unused t) ≤ (if is_page n q then 1 else 0)) same
     (subst (λ (n : ℕ). count q (unused t) ≤ n) (each q) (count-list_at q 0 t.lists))

@@ -1,7 +1,11 @@
 pub mod Bounds
 pub mod Cells
 pub mod Evidence
+pub mod Kinds
 pub mod Page
 pub mod Pointers
+pub mod Reach
 pub mod Rows
+pub mod Taking
 pub mod Turns
+pub mod Walk

@@ -11,7 +11,7 @@ ghost use Rattle.page_walk.specs.Bounds.{Adds, Uses};
 ghost use Rattle.page_walk.specs.Cells.{outcome_of, outcomes_in, outcomes_on};
 ghost use Rattle.page_walk.specs.Evidence.{Evidence};
 ghost use Rattle.page_walk.specs.Rows.{rows_of};
-ghost use Rattle.page_walk.specs.Turns.{ReadsEach};
+ghost use Rattle.page_walk.specs.Turns.{ReadsEach, after_turns};
 
 use crate::entries::take_cell;
 use crate::outcomes::{CellOutcome, Place};
@@ -81,6 +81,8 @@ pub fn cells_of<S: Source>(
     ensures evidence { OnOk result (IfSome (S.bytes src.old)
         (λ all. AllByRecursion (Evidence (file_of all geo.now))
         (rows_of (outcomes_on (file_of all geo.now) page (unused table.old))))) }
+    ensures table { OnOk result (IfSome (S.bytes src.old)
+        (λ all. table.new ≡ after_turns (file_of all geo.now) page table.old)) }
     ensures used { OnOk result (Uses table.old table.new to.old.items to.new.items) }
     ensures cause { HasCauseOf faults.Source (S.faults src.old) (S.faults src.new) result }
     ensures kept { KeepsSource S.bytes S.attached S.faults S.reads src.old src.new }

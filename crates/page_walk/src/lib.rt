@@ -5,18 +5,29 @@
 mod causes;
 mod cells;
 mod entries;
+mod laws;
 mod named;
 mod outcomes;
 mod pages;
 mod pushes;
 mod rows;
 mod screens;
+mod surveys;
+mod walks;
 
 pub use causes::CellCause;
 pub use cells::cells_of;
+pub use laws::{children_are_named, walk_is_tree};
 pub use named::pointers;
 pub use outcomes::{CellOutcome, Place, TakenCell};
 pub use rows::{PageNotes, read_cells};
+pub use surveys::{PageKinds, survey};
+pub use walks::walk_tree;
+
+/// The number of lists of a page table: as many as the order of use has.
+pub const LISTS: u32 = 7;
 
 #[cfg(test)]
 mod tests;
+#[cfg(test)]
+mod walk_tests;

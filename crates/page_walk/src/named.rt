@@ -6,11 +6,10 @@ ghost use Rattle.page_access.specs.Outside.{HasCauseOf, KeepsSource};
 ghost use Rattle.page_walk.specs.Pointers.{child_by, children_in, pointers_on};
 
 use crate::causes::CellCause;
-use crate::pages::load_page;
 use crate::pushes::push_some;
 use crate::screens::screen;
 use cell_reader::{Accepted, CellView, PageShape, right_child, shape};
-use page_access::{Geometry, ReadFault, Source};
+use page_access::{Geometry, ReadFault, Source, load};
 use std::alloc::{AllocError, Global};
 
 // The child that a cell names, where it is accepted.
@@ -23,25 +22,62 @@ fn accepted_child(cell: Result<CellView, CellCause>) -> Option<u32>
     }
 }
 
-// Appends the child of each accepted cell of the page, in cell order.
+// Appends the child of each accepted cell of the page, in cell order. `accepted` is for the cells' bytes.
 fn push_children(
-    alloc: Global,
     page: &[u8],
     shape: &PageShape,
     geo: &Geometry,
+    accepted: &mut Accepted,
     to: &mut Vec<u32>,
 ) -> Result<(), AllocError>
     requires whole { geo.now.usable ≤ length page.now }
     requires of_page { shape_at page.now shape.now.head geo.now.usable ≡ Some shape.now }
+    requires marks { length accepted.old ≡ geo.now.usable }
     ensures value { OnOk result
         (to.new.items ≡ to.old.items ++ children_in page.now geo.now.usable geo.now.pages shape.now) }
+    ensures marks { length accepted.new ≡ length accepted.old }
     ensures bound { length to.new.items ≤ length to.old.items + shape.now.cells }
 {
-    let mut accepted = Accepted::new(alloc, geo.usable)?;
+    accepted.clear();
     for i in 0..shape.cells {
-        let child = accepted_child(screen(page, shape, geo, i, &mut accepted));
+        let child = accepted_child(screen(page, shape, geo, i, accepted));
         push_some(to, child)?;
     }
+    Ok(())
+}
+
+// Reads page `page` into `buffer`, and appends the pages that it names as `pointers` does. `accepted` is
+// for the bytes of its cells.
+pub fn push_pointers<S: Source>(
+    src: &mut S,
+    geo: &Geometry,
+    page: u32,
+    buffer: &mut [u8],
+    accepted: &mut Accepted,
+    to: &mut Vec<u32>,
+) -> Result<(), ReadFault>
+    requires page_least { 1 ≤ page }
+    requires page_most { page ≤ geo.now.pages }
+    requires size { length buffer.old ≡ geo.now.page_size }
+    requires marks { length accepted.old ≡ geo.now.usable }
+    ensures value { OnOk result (IfSome (S.bytes src.old)
+        (λ all. to.new.items ≡ to.old.items ++ pointers_on (file_of all geo.now) page)) }
+    ensures marks { length accepted.new ≡ length accepted.old }
+    ensures cause { HasCauseOf ReadFault.Source (S.faults src.old) (S.faults src.new) result }
+    ensures kept { KeepsSource S.bytes S.attached S.faults S.reads src.old src.new }
+    ensures bound { length to.new.items ≤ length to.old.items + geo.now.usable / 2 }
+    ensures reads { IfSome (S.bytes src.old)
+        (λ all. IsWhole all geo.now → S.reads src.new ≤ S.reads src.old + 1) }
+{
+    load(src, geo, page, buffer)?;
+    let Some(shape) = shape(buffer, page, geo) else {
+        return Ok(());
+    };
+    let Some(right) = right_child(buffer, &shape) else {
+        return Ok(());
+    };
+    push_children(buffer, &shape, geo, accepted, to)?;
+    to.push(right)?;
     Ok(())
 }
 
@@ -64,14 +100,7 @@ pub fn pointers<S: Source>(
     ensures reads { IfSome (S.bytes src.old)
         (λ all. IsWhole all geo.now → S.reads src.new ≤ S.reads src.old + 1) }
 {
-    let bytes = load_page(alloc, src, geo, page)?;
-    let Some(shape) = shape(&bytes, page, geo) else {
-        return Ok(());
-    };
-    let Some(right) = right_child(&bytes, &shape) else {
-        return Ok(());
-    };
-    push_children(alloc, &bytes, &shape, geo, to)?;
-    to.push(right)?;
-    Ok(())
+    let mut buffer = vec![in alloc; 0; geo.page_size as usize]?;
+    let mut accepted = Accepted::new(alloc, geo.usable)?;
+    push_pointers(src, geo, page, buffer.as_mut_slice(), &mut accepted, to)
 }

@@ -9,7 +9,7 @@ ghost use Rattle.page_walk.specs.Bounds.{AddsRows};
 ghost use Rattle.page_walk.specs.Cells.{outcome_of, outcomes_on, row_of};
 ghost use Rattle.page_walk.specs.Evidence.{Evidence};
 ghost use Rattle.page_walk.specs.Rows.{GainsFront, notes_of, notes_with, rows_of, taken_in};
-ghost use Rattle.page_walk.specs.Turns.{ReadsEach};
+ghost use Rattle.page_walk.specs.Turns.{ReadsEach, after_turns};
 
 use crate::CellCause;
 use crate::cells::cells_of;
@@ -91,6 +91,8 @@ pub fn read_cells<S: Source>(
         (rows_of (outcomes_on (file_of all geo.now) page (unused table.old))))) }
     ensures notes { IfOk result (λ n. IfSome (S.bytes src.old)
         (λ all. n ≡ notes_of (outcomes_on (file_of all geo.now) page (unused table.old)))) }
+    ensures table { OnOk result (IfSome (S.bytes src.old)
+        (λ all. table.new ≡ after_turns (file_of all geo.now) page table.old)) }
     ensures cause { HasCauseOf faults.Source (S.faults src.old) (S.faults src.new) result }
     ensures kept { KeepsSource S.bytes S.attached S.faults S.reads src.old src.new }
     ensures moves { Moves 4 table.old table.new }

@@ -9,7 +9,7 @@ use std::alloc::{AllocError, Global};
 use std::test::Fail;
 
 // A file of three pages of this size.
-fn geometry(size: u32) -> Geometry
+pub(crate) fn geometry(size: u32) -> Geometry
     requires { (size ≡ 512) ⊎ (size ≡ 1024) }
     ensures size { result.page_size ≡ size }
     ensures pages { result.pages ≡ 3 }
@@ -22,7 +22,7 @@ fn geometry(size: u32) -> Geometry
 }
 
 // The page with the piece at a place, where there is room for it.
-fn put(page: &mut [u8], at: usize, piece: &[u8]) {
+pub(crate) fn put(page: &mut [u8], at: usize, piece: &[u8]) {
     for (i, byte) in piece.iter().enumerate() {
         if at < page.len() && i < page.len() - at {
             page[at + i] = *byte;
@@ -31,7 +31,7 @@ fn put(page: &mut [u8], at: usize, piece: &[u8]) {
 }
 
 // The three pages as a source.
-fn source(alloc: Global, pages: [&[u8]; 3]) -> Result<MemSource, AllocError> {
+pub(crate) fn source(alloc: Global, pages: [&[u8]; 3]) -> Result<MemSource, AllocError> {
     let mut bytes = Vec::new(alloc);
     for page in pages {
         bytes.extend_from_slice(page)?;

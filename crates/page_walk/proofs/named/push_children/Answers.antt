@@ -1,10 +1,10 @@
-use Rattle.std.proofs.Common.{ap, ◌∙◌}
+use Rattle.std.proofs.Common.{ap, ◌∙◌, ℕ, false, replicate}
 use Rattle.page_walk.specs.Pointers.{child_by}
 use Rattle.page_walk.proofs.Names.{naming_start, naming_more, naming_end}
 use Rattle.page_walk.proofs.named.push_children.Goals as goal
 
 pub loop-i-init : goal.loop-i-init
-loop-i-init c = naming_start _ _ _ _ _ _ c.in_ok-accepted.ensures
+loop-i-init c = naming_start _ _ _ _ _ _ (c.clear.ensures ∙ ap (λ (n : ℕ). replicate n false) c.requires.marks)
 
 pub loop-i-preserved : goal.loop-i-preserved
 loop-i-preserved c =

@@ -1,0 +1,14 @@
+use Rattle.std.proofs.Common.{◌≡◌, ◌-◌, length}
+use Rattle.page_lists.specs.Table.{unused}
+use Rattle.page_walk.proofs.Walking.{Walking}
+use Rattle.page_walk.proofs.walks.walk_tree.Given as goal
+
+abbrev pub invariant-loop-at : goal.invariant-loop-at
+invariant-loop-at g l = record {
+  marks : length l.accepted ≡ l.geo.usable;
+  walking : Walking g.S.Source.bytes g.S.Source.attached g.S.Source.faults g.S.Source.reads l.geo l.kind
+      l.root l.list l.fn.src l.src l.fn.table l.table l.found.items l.at;
+}
+
+abbrev pub decreases-loop-at : goal.decreases-loop-at
+decreases-loop-at g l = length (unused l.fn.table) - l.at

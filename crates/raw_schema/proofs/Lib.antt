@@ -1,0 +1,5 @@
+pub mod Lists
+pub mod Small
+pub mod Sorting
+pub mod Tree
+pub mod Turns

@@ -1,5 +1,5 @@
 -- Listings page by page, where the source tells its bytes.
-use Rattle.std.proofs.Common.{◌≡◌, ◌∙◌, ap, arith, ℕ, suc, ◌+◌, ◌-◌, ◌<◌, ◌≤◌, List, [], ◌++◌, Option, Some, None, Result, Ok, Err, IsErr, IsErrAnd, IsErrOf, sym, subst, refl}
+use Rattle.std.proofs.Common.{◌≡◌, ap, arith, ℕ, suc, ◌+◌, ◌-◌, ◌<◌, ◌≤◌, List, [], ◌++◌, Option, Some, None, Result, Ok, Err, IsErr, IsErrAnd, IsErrOf, sym, subst}
 use Rattle.std.specs.Prelude.{IfSome}
 use Rattle.page_access.specs.Outside.{WritesOf}
 use Rattle.dbdata_list.specs.Listing.{pages_text}

@@ -1,15 +1,14 @@
 -- The listing of all cells, page by page, and the unused pages that each page leaves.
-use Rattle.std.proofs.Common.{◌≡◌, ◌∙◌, ◌<◌, ◌≤◌, ℕ, suc, ◌+◌, ◌-◌, List, [], ◌∷◌, ◌++◌, length, drop, get_or, map, Option, Some, None, ap, arith, sym, lit≤}
+use Rattle.std.proofs.Common.{◌≡◌, ◌∙◌, ◌<◌, ℕ, suc, ◌+◌, ◌-◌, List, ◌++◌, length, drop, get_or, map, Option, Some, None, ap, arith, sym, lit≤}
 use Rattle.std.specs.Prelude.{IfSome}
 use Rattle.std.proofs.lemmas.List.{drop_more}
 use Rattle.page_access.specs.Pages.{File}
-use Rattle.page_lists.specs.Lists.{minus}
-use Rattle.page_lists.specs.Table.{Table, all_moved, fresh, unused}
-use Rattle.page_lists.proofs.Uses.{length-all_moved, pages-all_moved, unused-all_moved}
-use Rattle.page_walk.specs.Bounds.{Uses}
+use Rattle.page_lists.specs.Table.{Table, fresh, unused}
+use Rattle.page_lists.proofs.Uses.{unused-all_moved}
 use Rattle.page_walk.specs.Cells.{chains_of, outcome_of, outcomes_on}
 use Rattle.page_walk.specs.declared.outcomes.CellOutcome.{CellOutcome}
-use Rattle.dbdata_list.specs.Listing.{data_text, left_by, page_data, pages_data}
+use Rattle.page_walk.specs.Turns.{after_turns, left_by}
+use Rattle.dbdata_list.specs.Listing.{data_text, page_data, pages_data}
 use Rattle.dbdata_list.specs.Text.{outcome_text, outcomes_text}
 
 -- the lines from a cell on
@@ -30,18 +29,7 @@ pub data_more : (f : File) (n i : ℕ) (u : List ℕ) → i < n →
 data_more f n i u lt = let e : n - i ≡ suc (n - (i + 1)) = omega arith in ap (λ m. pages_data f m (i + 1) u) e
 
 -- what the cells of a page leave
-pub left_is : (told : Option (List ℕ)) (f : List ℕ → File) (p : ℕ) (old new : Table) (before after : List CellOutcome) → before ≡ [] → Uses old new before after
-    → IfSome told (λ all. map outcome_of after ≡ map outcome_of before ++ outcomes_on (f all) p (unused old)) → IfSome told (λ all. unused new ≡ left_by (f all) p (unused old))
-left_is None f p old new before after e u value = tt
-left_is (Some all) f p old new before after e u value =
-    let more : after ≡ u.more = u.all ∙ ap (λ b. b ++ u.more) e in
-    let outcomes : map outcome_of u.more ≡ outcomes_on (f all) p (unused old) =
-    ap (map outcome_of) (sym more) ∙ value ∙ ap (λ b. map outcome_of b ++ outcomes_on (f all) p (unused old)) e in
-    ap unused u.table ∙ unused-all_moved (chains_of (map outcome_of u.more)) 4 old (lit≤ tt) ∙ ap (λ os. minus (unused old) (chains_of os)) outcomes
-
--- the table keeps its pages and its lists
-pub uses_pages : (old new : Table) (before after : List CellOutcome) → Uses old new before after → new.pages ≡ old.pages
-uses_pages old new before after u = ap (λ (t : Table). t.pages) u.table ∙ pages-all_moved (chains_of (map outcome_of u.more)) 4 old
-
-pub uses_lists : (old new : Table) (before after : List CellOutcome) → Uses old new before after → length new.lists ≡ length old.lists
-uses_lists old new before after u = ap (λ (t : Table). length t.lists) u.table ∙ length-all_moved (chains_of (map outcome_of u.more)) 4 old
+pub left_is : (told : Option (List ℕ)) (f : List ℕ → File) (p : ℕ) (old new : Table) → IfSome told (λ all. new ≡ after_turns (f all) p old)
+    → IfSome told (λ all. unused new ≡ left_by (f all) p (unused old))
+left_is None f p old new same = tt
+left_is (Some all) f p old new same = ap unused same ∙ unused-all_moved (chains_of (outcomes_on (f all) p (unused old))) 4 old (lit≤ tt)

@@ -2,9 +2,9 @@
 use Rattle.std.specs.Prelude.{ℕ, zero, suc, ◌+◌, List, [], ◌++◌}
 use Rattle.std.specs.List.{range_with_len}
 use Rattle.page_access.specs.Pages.{File}
-use Rattle.page_lists.specs.Lists.{minus}
-use Rattle.page_walk.specs.Cells.{chains_of, outcomes_on}
+use Rattle.page_walk.specs.Cells.{outcomes_on}
 use Rattle.page_walk.specs.Pointers.{pointers_on}
+use Rattle.page_walk.specs.Turns.{left_by}
 use Rattle.dbdata_list.specs.Text.{outcomes_text, pointer_lines}
 
 -- the lines of n pages from page p on
@@ -23,10 +23,6 @@ pointers_text f = pages_text (page_pointers f) f.pages 1
 -- the lines of the cells of page p, at their turns
 abbrev pub page_data : File → ℕ → List ℕ → List ℕ
 page_data f p unused = outcomes_text p (outcomes_on f p unused)
-
--- the unused pages that the cells of page p leave
-abbrev pub left_by : File → ℕ → List ℕ → List ℕ
-left_by f p unused = minus unused (chains_of (outcomes_on f p unused))
 
 -- the lines of the cells of n pages from page p on: overflow chains alone use pages, and each is listed
 -- all the same

@@ -4,18 +4,16 @@ ghost use Rattle.page_access.specs.Files.{file_of};
 ghost use Rattle.page_access.specs.Outside.{HasCauseOf, KeepsSink, KeepsSource, Writes, WritesOf};
 ghost use Rattle.page_lists.specs.Table.{unused};
 ghost use Rattle.page_walk.specs.Cells.{outcome_of};
-ghost use Rattle.dbdata_list.specs.Listing.{data_text, left_by, page_data};
+ghost use Rattle.page_walk.specs.Turns.{left_by};
+ghost use Rattle.dbdata_list.specs.Listing.{data_text, page_data};
 ghost use Rattle.dbdata_list.specs.Text.{cause_text, outcome_text, outcomes_text};
 
 use crate::faults::ListFault;
 use crate::lines::{put_row, put_unread};
 use page_access::{Failed, Geometry, Sink, Source};
 use page_lists::PageTable;
-use page_walk::{CellCause, CellOutcome, cells_of};
+use page_walk::{CellCause, CellOutcome, LISTS, cells_of};
 use std::alloc::Global;
-
-// Lists of a page table: as many as the order of use has.
-const LISTS: u32 = 7;
 
 /// Lists every cell of every page in rising order: a line `PAGE CELL FIELD VALUE` for each value of a
 /// readable cell, its rowid first as field -1, and `PAGE CELL unread CAUSE` for any other cell.

@@ -89,7 +89,7 @@ pub(crate) fn put_unread<R: Sink>(
         (unread_line page cell cause.now) result }
     ensures kept { KeepsSink R.created R.faults to.old to.new }
 {
-    let mut line = place(page, cell);
+    let mut line = place(u64::from(page), u64::from(cell));
     add(&mut line, b"unread ");
     add(&mut line, cause.as_bytes());
     add(&mut line, b"\n");
@@ -233,8 +233,9 @@ fn put_name<R: Sink>(
     to.put(line.as_slice())
 }
 
-// Puts the bytes in hexadecimal digits.
-fn put_hex<R: Sink>(to: &mut R, bytes: &[u8]) -> Result<(), Failed>
+/// Puts two small hexadecimal digits for each byte, at most 128 digits in one call of the sink. After an
+/// error the digits before some place are there.
+pub fn put_hex<R: Sink>(to: &mut R, bytes: &[u8]) -> Result<(), Failed>
     ensures writes { Writes (R.bytes to.old) (R.bytes to.new) (R.faults to.old) (R.faults to.new)
         (encode_lower bytes.now) result }
     ensures kept { KeepsSink R.created R.faults to.old to.new }
@@ -266,19 +267,20 @@ fn put_digits<R: Sink>(to: &mut R, bytes: &[u8]) -> Result<(), Failed>
 fn head(page: u32, cell: u32, field: &[u8]) -> Line
     requires { length field.now ≤ 20 }
     ensures text { result.items ≡ field_text page cell field.now }
-    ensures len { array_vec_len result ≤ 61 }
+    ensures len { array_vec_len result ≤ 63 }
 {
-    let mut line = place(page, cell);
+    let mut line = place(u64::from(page), u64::from(cell));
     add(&mut line, field);
     add(&mut line, b" ");
     line
 }
 
-// The beginning of a cell's line.
+/// The beginning of a cell's line: the number of its page, counted from 1, and its own number there,
+/// counted from 0, a space behind each. These are 42 bytes at most.
 #[tactic(auto, unfolding(crate::specs::Text::place_text))]
-fn place(page: u32, cell: u32) -> Line
+pub fn place(page: u64, cell: u64) -> Line
     ensures text { result.items ≡ place_text page cell }
-    ensures len { array_vec_len result ≤ 40 }
+    ensures len { array_vec_len result ≤ 42 }
 {
     let mut line = Line::new();
     add(&mut line, Buffer::new().format(page).as_bytes());
@@ -288,7 +290,7 @@ fn place(page: u32, cell: u32) -> Line
     line
 }
 
-/// Adds a word to a line that has room for it.
+/// Appends the bytes of a word to a line that has room for them.
 pub fn add(line: &mut Line, word: &[u8])
     requires { array_vec_len line.old + length word.now ≤ 128 }
     ensures text { line.new.items ≡ line.old.items ++ word.now }

@@ -2,7 +2,8 @@ use Rattle.std.proofs.Common.{◌≡◌, ◌≤◌, ◌+◌, ◌-◌, ◌∙◌,
 use Rattle.page_access.specs.Files.{file_of}
 use Rattle.page_access.proofs.Keeps.{KeepsSink-refl, KeepsSink-trans, KeepsSource-refl, KeepsSource-trans}
 use Rattle.page_lists.specs.Table.{Table, unused}
-use Rattle.dbdata_list.specs.Listing.{data_text, left_by, page_data, pages_data}
+use Rattle.page_walk.specs.Turns.{left_by}
+use Rattle.dbdata_list.specs.Listing.{pages_data}
 use Rattle.dbdata_list.specs.declared.faults.ListFault.TheVariants.{Memory, Sink}
 use Rattle.dbdata_list.proofs.Told.{passed_on, told_left, told_out, told_start, told_step, told_with}
 use Rattle.dbdata_list.proofs.Turns.{data_all, data_more}

@@ -1,6 +1,4 @@
 use Rattle.std.proofs.Common.{sym}
-use Rattle.page_access.proofs.Gains.{writes_same}
-use Rattle.dbdata_list.specs.Text.{outcome_text, row_text, unread_line}
 use Rattle.dbdata_list.proofs.cells.put_cell.Goals as goal
 
 pub returns-in-Taken-clause-writes : goal.returns-in-Taken-clause-writes

@@ -1,4 +1,4 @@
-use Rattle.std.proofs.Common.{◌≡◌, ◌+◌, ◌-◌, List, ℕ, arith}
+use Rattle.std.proofs.Common.{◌+◌, ◌-◌, arith}
 use Rattle.page_access.specs.Files.{file_of}
 use Rattle.page_access.proofs.Keeps.{KeepsSink-refl, KeepsSink-trans, KeepsSource-refl, KeepsSource-trans}
 use Rattle.dbdata_list.specs.Listing.{page_pointers, pages_text, pointers_text}

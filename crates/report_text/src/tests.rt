@@ -1,0 +1,75 @@
+//! The lines are written by hand (docs/TEXTS.md, "Listings").
+use crate::{ReportLine, put_line};
+use page_access::{Failed, MemFail, MemSink};
+use raw_schema::SchemaKind;
+use record_core::Bytes;
+use std::alloc::{AllocError, Global};
+use std::test::Fail;
+
+const ROW_OF_T: &[u8] = b"1 0 table t t 2 text:435245415445205441424c45207428612c6229\n";
+
+// The row of table t in a new file.
+fn row_of_t(alloc: Global) -> Result<ReportLine, AllocError> {
+    Ok(ReportLine::Row {
+        page: 1,
+        cell: 0,
+        kind: SchemaKind::Table,
+        name: Bytes::copy_of(alloc, b"t")?,
+        tbl: Bytes::copy_of(alloc, b"t")?,
+        root: 2,
+        sql: Some(Bytes::copy_of(alloc, b"CREATE TABLE t(a,b)")?),
+    })
+}
+
+#[test]
+fn a_row_is_listed_with_its_statement(rt: HostRuntime) -> Result<(), Fail> {
+    let alloc = rt.alloc();
+    let mut to = MemSink::new(alloc, 100, Vec::new(alloc))?;
+    assert_eq!(rt; put_line(&row_of_t(alloc)?, &mut to), Ok(()));
+    assert_eq!(rt; to.bytes(), ROW_OF_T);
+    Ok(())
+}
+
+#[test]
+fn bytes_of_names_that_could_be_misread_are_written_as_digits(rt: HostRuntime) -> Result<(), Fail> {
+    let alloc = rt.alloc();
+    let mut to = MemSink::new(alloc, 100, Vec::new(alloc))?;
+    let line = ReportLine::Row {
+        page: 7,
+        cell: 3,
+        kind: SchemaKind::Index,
+        name: Bytes::copy_of(alloc, b"a b\\\xff~\x7f!")?,
+        tbl: Bytes::copy_of(alloc, b"")?,
+        root: -12,
+        sql: None,
+    };
+    assert_eq!(rt; put_line(&line, &mut to), Ok(()));
+    assert_eq!(rt;
+        to.bytes(),
+        b"7 3 index a\\20b\\5c\\ff~\\7f! \\ -12 null\n".as_slice()
+    );
+    Ok(())
+}
+
+#[test]
+fn a_cell_that_is_no_row_is_bad(rt: HostRuntime) -> Result<(), Fail> {
+    let alloc = rt.alloc();
+    let mut to = MemSink::new(alloc, 100, Vec::new(alloc))?;
+    let line = ReportLine::BadRow { page: 3, cell: 1 };
+    assert_eq!(rt; put_line(&line, &mut to), Ok(()));
+    assert_eq!(rt; to.bytes(), b"3 1 bad\n".as_slice());
+    Ok(())
+}
+
+#[test]
+fn a_call_of_the_sink_that_fails_leaves_a_front_of_the_line(rt: HostRuntime) -> Result<(), Fail> {
+    let alloc = rt.alloc();
+    let line = row_of_t(alloc)?;
+    for call in 1..9u64 {
+        let fails = [MemFail { call, keep: 1 }].to_vec(alloc)?;
+        let mut to = MemSink::new(alloc, 100, fails)?;
+        assert_eq!(rt; put_line(&line, &mut to), Err(Failed));
+        assert!(rt; ROW_OF_T.starts_with(to.bytes()));
+    }
+    Ok(())
+}

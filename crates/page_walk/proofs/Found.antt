@@ -41,6 +41,7 @@ kind_of_page f q page =
     let high : q ≤ f.pages = leb-true q f.pages parts.1 in
     get_or-map-range_with_len (kind_on f) 1 f.pages (q - 1) q None (omega arith) (omega arith)
 
+-- whether a page is wanted, by its own kind
 wanted_is : (f : File) (kind : Kind) (q : ℕ)
     → is_of_kind (kinds_of f) f.pages kind q ≡ (is_page f.pages q && same_kind (kind_on f q) (Some kind))
 wanted_is f kind q =
@@ -80,11 +81,13 @@ all_firsts P unused (q ∷ qs) h =
       | false ↦ all_firsts P unused qs h.1
     ]
 
+-- what holds of each page of a list holds of the one at a place
 all_at : (P : ℕ → Type 0) (xs : List ℕ) (i d : ℕ) → i < length xs → AllByRecursion P xs → P (get_or xs i d)
 all_at P [] i d lt h = absurd (omega (arith, lt))
 all_at P (x ∷ xs) zero d lt h = h.0
 all_at P (x ∷ xs) (suc i) d lt h = all_at P xs i d (omega (arith, lt)) h.1
 
+-- a number names a page of the file
 named_page : (n : ℕ) (root : ℤ) (r : ℕ) → page_named n root ≡ Some r → is_page n r ≡ true
 named_page n (pos q) r e = by_test (is_page n q) refl e
   where
@@ -93,6 +96,7 @@ named_page n (pos q) r e = by_test (is_page n q) refl e
     by_test false out same = absurd cc
 named_page n (negsuc q) r e = absurd cc
 
+-- no page, where the walk has none
 found_none : (f : File) (kind : Kind) (root : ℤ) (unused : List ℕ) → walk f unused root kind ≡ []
     → Found f kind root unused [] 0
 found_none f kind root unused none = record { of_kind = tt; rest = rest_none (children f) unused ∙ sym none }

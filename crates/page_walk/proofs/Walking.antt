@@ -34,6 +34,7 @@ pub record Walking {S : Type 0} (told attached : S → Option (List ℕ)) (fault
   pub read : IfSome (told src0) (λ all. IsWhole all geo → reads src ≤ reads src0 + at)
   pub found_are : IfSome (told src0) (λ all. Found (file_of all geo) kind root (unused old) found at)
 
+-- the page at a place of a list stands in it
 in_at : (xs : List ℕ) (i d : ℕ) → i < length xs → is_in (get_or xs i d) xs ≡ true
 in_at [] i d lt = absurd (omega (arith, lt))
 in_at (x ∷ xs) zero d lt = in_head x xs
@@ -96,6 +97,7 @@ walking_start told attached faults reads geo kind root l src ks old new none nam
       found_are = walking_found geo kind root l (told src) ks old new none named found same surveyed empty numbered took;
     }
 
+-- the pages found are moves of unused pages
 pub walking_moves : {S : Type 0} {told attached : S → Option (List ℕ)} {faults reads : S → ℕ} {geo : Geometry} {kind : Kind}
     {root : ℤ} {l : ℕ} {src0 src : S} {old new : Table} {found : List ℕ} {at : ℕ}
     → Walking told attached faults reads geo kind root l src0 src old new found at → Moves l old new

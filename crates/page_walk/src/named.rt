@@ -22,7 +22,8 @@ fn accepted_child(cell: Result<CellView, CellCause>) -> Option<u32>
     }
 }
 
-// Appends the child of each accepted cell of the page, in cell order. `accepted` is for the cells' bytes.
+// Appends the child of each accepted cell of the page, in cell order. `accepted` is for the bytes
+// of its cells.
 fn push_children(
     page: &[u8],
     shape: &PageShape,
@@ -33,8 +34,8 @@ fn push_children(
     requires whole { geo.now.usable ≤ length page.now }
     requires of_page { shape_at page.now shape.now.head geo.now.usable ≡ Some shape.now }
     requires marks { length accepted.old ≡ geo.now.usable }
-    ensures value { OnOk result
-        (to.new.items ≡ to.old.items ++ children_in page.now geo.now.usable geo.now.pages shape.now) }
+    ensures value { OnOk result (to.new.items ≡ to.old.items
+        ++ children_in page.now geo.now.usable geo.now.pages shape.now) }
     ensures marks { length accepted.new ≡ length accepted.old }
     ensures bound { length to.new.items ≤ length to.old.items + shape.now.cells }
 {
@@ -46,8 +47,8 @@ fn push_children(
     Ok(())
 }
 
-// Reads page `page` into `buffer`, and appends the pages that it names as `pointers` does. `accepted` is
-// for the bytes of its cells.
+// Reads page `page` into `buffer`, and appends the pages that it names as `pointers` does.
+// `accepted` is for the bytes of its cells.
 pub fn push_pointers<S: Source>(
     src: &mut S,
     geo: &Geometry,

@@ -49,7 +49,8 @@ fn kind_of(page: &[u8], number: u32, geo: &Geometry) -> Option<Kind>
 
 /// The kind of each page. Each page is read once.
 pub fn survey<S: Source>(alloc: Global, src: &mut S, geo: &Geometry) -> Result<PageKinds, ReadFault>
-    ensures kinds { IfOk result (λ k. IfSome (S.bytes src.old) (λ all. k ≡ kinds_of (file_of all geo.now))) }
+    ensures kinds { IfOk result (λ k. IfSome (S.bytes src.old)
+        (λ all. k ≡ kinds_of (file_of all geo.now))) }
     ensures len { IfOk result (λ k. length k ≡ geo.now.pages) }
     ensures cause { HasCauseOf faults.Source (S.faults src.old) (S.faults src.new) result }
     ensures kept { KeepsSource S.bytes S.attached S.faults S.reads src.old src.new }

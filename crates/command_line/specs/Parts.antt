@@ -4,7 +4,7 @@ use Rattle.std.specs.Str.{bytes_eq}
 use Rattle.page_access.specs.Pages.{is_page_size}
 use Rattle.command_line.specs.Numbers.{page_size_of, reserved_of}
 use Rattle.command_line.specs.declared.request.Mode.{Mode}
-use Rattle.command_line.specs.declared.request.Mode.TheVariants.{Dbdata, Dbptr}
+use Rattle.command_line.specs.declared.request.Mode.TheVariants.{Dbdata, Dbptr, Schema}
 
 -- a word, as its bytes
 abbrev pub Word : Type 0
@@ -23,7 +23,8 @@ pub record Asked : Type 0 where
 unfoldable pub mode_of : Word → Option Mode
 mode_of word =
     if bytes_eq word (codes "dbdata") then Some Dbdata
-    else (if bytes_eq word (codes "dbptr") then Some Dbptr else None)
+    else (if bytes_eq word (codes "dbptr") then Some Dbptr
+    else (if bytes_eq word (codes "schema") then Some Schema else None))
 
 -- the one further word
 abbrev pub only_word : Option (List Word) → Option Word

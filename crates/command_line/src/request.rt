@@ -7,6 +7,8 @@ pub enum Mode {
     Dbdata,
     /// Lists every page number that a page names.
     Dbptr,
+    /// Lists the rows of the schema.
+    Schema,
 }
 
 /// A command: a mode, its input and its options.

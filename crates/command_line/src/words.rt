@@ -149,6 +149,7 @@ fn mode_in(word: &str) -> Option<Mode>
     match word {
         "dbdata" => Some(Mode::Dbdata),
         "dbptr" => Some(Mode::Dbptr),
+        "schema" => Some(Mode::Schema),
         _ => None,
     }
 }
@@ -190,6 +191,8 @@ mod tests {
         assert_eq!(rt; asked(alloc, &["dbdata", "--", "-a"])?, Some((0, 0)));
         assert_eq!(rt; asked(alloc, &["dbdata", "-"])?, Some((0, 0)));
         assert_eq!(rt; asked(alloc, &["dbdata", ""])?, Some((0, 0)));
+        assert_eq!(rt; asked(alloc, &["schema", "a"])?, Some((0, 0)));
+        assert_eq!(rt; asked(alloc, &["trial", "3"])?, None);
         assert_eq!(rt; asked(alloc, &[])?, None);
         assert_eq!(rt; asked(alloc, &["dbdata"])?, None);
         assert_eq!(rt; asked(alloc, &["dbdata", "a", "b"])?, None);

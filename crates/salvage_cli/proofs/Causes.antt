@@ -8,12 +8,12 @@ use Rattle.page_size.specs.Rule.{Finding, rule}
 use Rattle.page_size.specs.declared.finds.GeoFault.{GeoFault}
 use Rattle.page_size.specs.declared.finds.GeoFault.TheVariants as geo
 use Rattle.salvage_cli.specs.Answers.{status_of}
-use Rattle.salvage_cli.specs.Outcome.{GivesCommand, HasNoPages, wanted_of}
+use Rattle.salvage_cli.specs.Outcome.{GivesCommand, HasNoPages, IsUtf16, wanted_of}
 use Rattle.salvage_cli.specs.Run.{GivesWanted}
 use Rattle.salvage_cli.proofs.Outcomes.{refused}
-use Rattle.salvage_cli.specs.Wanted.{pages_by, pages_of, wanted, wanted_by}
+use Rattle.salvage_cli.specs.Wanted.{file_by, listing_of, pages_by, pages_of, refused_by, wanted, wanted_by}
 use Rattle.salvage_cli.specs.declared.faults.Fault.{Fault}
-use Rattle.salvage_cli.specs.declared.faults.Fault.TheVariants.{Usage, InputFault, TooLarge, NoPageSize, NoWholePage, ReportFault, Memory}
+use Rattle.salvage_cli.specs.declared.faults.Fault.TheVariants.{Usage, InputFault, TooLarge, NoPageSize, NoWholePage, Utf16, ReportFault, Memory}
 
 -- a listing that is wanted comes, or there is a fault of the outside, or no memory
 complete_of : {A : Type 0} (F G : Type 0) (want : Result (List ℕ) Fault) (old new : Option (List ℕ)) (answer : Result A Fault) → GivesWanted want old new answer
@@ -27,6 +27,7 @@ complete_of F G (Ok text) old new (Err Memory) h f g ok no_f no_g = inr refl
 complete_of F G (Ok text) old new (Err (TooLarge len)) h f g ok no_f no_g = absurd cc
 complete_of F G (Ok text) old new (Err NoPageSize) h f g ok no_f no_g = absurd cc
 complete_of F G (Ok text) old new (Err (NoWholePage len size)) h f g ok no_f no_g = absurd cc
+complete_of F G (Ok text) old new (Err Utf16) h f g ok no_f no_g = absurd cc
 
 pub complete_told : {A : Type 0} (F G : Type 0) (command : Option Asked) (told old new : Option (List ℕ)) (answer : Result A Fault)
     → IfSome told (λ all. GivesCommand command all old new answer) → (IsErrOf answer InputFault → F) → (IsErrOf answer ReportFault → G)
@@ -49,15 +50,21 @@ over_by true empty n len found e = refl
 over_by false true n len found e = absurd cc
 over_by false false n len found e = absurd (not_by_rule found len e)
 
-refusal_of : (mode : Mode) (all : List ℕ) (pages : Result (Option Finding) Fault) (fault : Fault) → wanted_by mode all pages ≡ Err fault → pages ≡ Err fault
-refusal_of mode all (Ok pages) fault e = absurd cc
-refusal_of mode all (Err found) fault e = let same : found ≡ fault = cc in ap (λ (f : Fault). Err f) same
+-- no mode refuses a length
+not_by_mode : (refuses : Bool) (text : List ℕ) (len : ℕ) → (if refuses then Err Utf16 else Ok text) ≡ Err (TooLarge len) → ⊥
+not_by_mode true text len e = cc
+not_by_mode false text len e = cc
+
+large_pages : (mode : Mode) (all : List ℕ) (pages : Result (Option Finding) Fault) (len : ℕ) → wanted_by mode all pages ≡ Err (TooLarge len) → pages ≡ Err (TooLarge len)
+large_pages mode all (Ok None) len e = absurd cc
+large_pages mode all (Ok (Some f)) len e = absurd (not_by_mode (refused_by mode f) (listing_of mode (file_by all f)) len e)
+large_pages mode all (Err found) len e = let same : found ≡ TooLarge len = cc in ap (λ (f : Fault). Err f) same
 
 -- an input that is too large has over 2^28 bytes
 over : (asked : Asked) (all : List ℕ) (len : ℕ) → wanted asked all ≡ Err (TooLarge len) → 2 ^ 28 < length all
 unfolding pages_of
 over asked all len e =
-    let p = refusal_of asked.mode all (pages_of asked all) (TooLarge len) e in
+    let p = large_pages asked.mode all (pages_of asked all) len e in
     let t : nat_lt (2 ^ 28) (length all) ≡ true =
     over_by (nat_lt (2 ^ 28) (length all)) (length all == 0) (length all) len (rule all asked.page_size asked.reserved) p in
     grind (arith, nat_tests)
@@ -69,6 +76,7 @@ five_is (Err InputFault) e = absurd (omega arith)
 five_is (Err (TooLarge len)) e = (len, refl)
 five_is (Err NoPageSize) e = absurd (omega arith)
 five_is (Err (NoWholePage len size)) e = absurd (omega arith)
+five_is (Err Utf16) e = absurd (omega arith)
 five_is (Err ReportFault) e = absurd (omega arith)
 five_is (Err Memory) e = absurd (omega arith)
 
@@ -93,6 +101,7 @@ no_pages_of want old new (Ok done) h e = absurd (omega arith)
 no_pages_of want old new (Err Usage) h e = absurd (omega arith)
 no_pages_of want old new (Err InputFault) h e = absurd (omega arith)
 no_pages_of want old new (Err (TooLarge len)) h e = absurd (omega arith)
+no_pages_of want old new (Err Utf16) h e = absurd (omega arith)
 no_pages_of want old new (Err ReportFault) h e = absurd (omega arith)
 no_pages_of want old new (Err Memory) h e = absurd (omega arith)
 no_pages_of (Ok text) old new (Err NoPageSize) h e = absurd cc
@@ -105,3 +114,22 @@ pub no_pages_told : {A : Type 0} (command : Option Asked) (told old new : Option
 no_pages_told command None old new answer h = tt
 no_pages_told None (Some all) old new answer h = λ e. elim (refused answer h) [ inl two ↦ absurd (omega arith) | inr eleven ↦ absurd (omega arith) ]
 no_pages_told (Some asked) (Some all) old new answer h = no_pages_of (wanted asked all) old new answer h
+
+utf16_of : {A : Type 0} (want : Result (List ℕ) Fault) (old new : Option (List ℕ)) (answer : Result A Fault) → GivesWanted want old new answer
+    → status_of answer ≡ 12 → IsUtf16 want
+utf16_of want old new (Ok done) h e = absurd (omega arith)
+utf16_of want old new (Err Usage) h e = absurd (omega arith)
+utf16_of want old new (Err InputFault) h e = absurd (omega arith)
+utf16_of want old new (Err (TooLarge len)) h e = absurd (omega arith)
+utf16_of want old new (Err NoPageSize) h e = absurd (omega arith)
+utf16_of want old new (Err (NoWholePage len size)) h e = absurd (omega arith)
+utf16_of want old new (Err ReportFault) h e = absurd (omega arith)
+utf16_of want old new (Err Memory) h e = absurd (omega arith)
+utf16_of (Ok text) old new (Err Utf16) h e = absurd cc
+utf16_of (Err fault) old new (Err Utf16) h e = subst (λ (w : Result (List ℕ) Fault). IsUtf16 w) (sym h) tt
+
+pub utf16_told : {A : Type 0} (command : Option Asked) (told old new : Option (List ℕ)) (answer : Result A Fault)
+    → IfSome told (λ all. GivesCommand command all old new answer) → IfSome told (λ all. status_of answer ≡ 12 → IsUtf16 (wanted_of command all))
+utf16_told command None old new answer h = tt
+utf16_told None (Some all) old new answer h = λ e. elim (refused answer h) [ inl two ↦ absurd (omega arith) | inr eleven ↦ absurd (omega arith) ]
+utf16_told (Some asked) (Some all) old new answer h = utf16_of (wanted asked all) old new answer h

@@ -1,3 +1,4 @@
 pub mod Causes
 pub mod Lists
 pub mod Outcomes
+pub mod SchemaLines

@@ -1,21 +1,11 @@
 -- What a command leaves in the report, exit by exit.
-use Rattle.std.proofs.Common.{◌≡◌, ◌∙◌, ℕ, List, [], ◌++◌, length, take, Option, Some, None, Result, Ok, Err, IsErr, IsErrAnd, OnOk, sym, subst, ap, refl}
-use Rattle.std.specs.Prelude.{IfErr, IfSome, option_map}
+use Rattle.std.proofs.Common.{◌≡◌, ℕ, List, length, Option, Some, None, Result, Ok, Err, sym, subst}
+use Rattle.std.specs.Prelude.{IfErr, IfSome}
 use Rattle.std.proofs.Math.Seq.{take-length}
-use Rattle.command_line.specs.Parts.{Asked}
-use Rattle.command_line.specs.declared.request.Mode.{Mode}
-use Rattle.page_access.specs.Files.{file_of}
-use Rattle.page_access.specs.Outside.{Gains, GainsPrefix, WritesOf}
-use Rattle.page_access.proofs.Gains.{Gains-nothing}
-use Rattle.page_access.specs.declared.outside.ReadFault.{ReadFault}
-use Rattle.page_access.specs.declared.outside.ReadFault.TheVariants as read
-use Rattle.page_size.specs.Rule.{Finding, finding}
-use Rattle.page_size.specs.declared.finds.Found.{Found}
-use Rattle.salvage_cli.specs.Answers.{of_read}
-use Rattle.salvage_cli.specs.Run.{EndsWanted, GivesWanted, IsLate, text_of}
-use Rattle.salvage_cli.specs.Wanted.{FindsPages, IsOfInput, listing_of, pages_of, wanted, wanted_by}
+use Rattle.page_access.specs.Outside.{Gains, WritesOf}
+use Rattle.salvage_cli.specs.Run.{EndsWanted, GivesWanted}
 use Rattle.salvage_cli.specs.declared.faults.Fault.{Fault}
-use Rattle.salvage_cli.specs.declared.faults.Fault.TheVariants.{Usage, InputFault, TooLarge, NoPageSize, NoWholePage, ReportFault, Memory}
+use Rattle.salvage_cli.specs.declared.faults.Fault.TheVariants.{ReportFault}
 
 -- a text is whole, and the report is finished or not
 finished_text : {A : Type 0} (old new : Option (List ℕ)) (text : List ℕ) (r : Result A Fault) → Gains old new text → IfErr r (λ fault. fault ≡ ReportFault)

@@ -1,5 +1,5 @@
 -- What the answer says of the status and of the report.
-use Rattle.std.proofs.Common.{◌≡◌, ◌⊎◌, ℕ, List, [], Option, Some, None, Result, Ok, Err, inl, inr, refl, sym, subst, length, take}
+use Rattle.std.proofs.Common.{◌≡◌, ◌⊎◌, ℕ, List, [], Option, Some, None, Result, Ok, Err, inl, inr, refl, sym, subst, length}
 use Rattle.std.specs.Prelude.{IfSome}
 use Rattle.std.proofs.Math.Seq.{take-length}
 use Rattle.command_line.specs.Parts.{Asked}
@@ -7,9 +7,9 @@ use Rattle.page_access.specs.Outside.{Gains, GainsPrefix}
 use Rattle.page_access.proofs.Gains.{Gains-nothing}
 use Rattle.salvage_cli.specs.Answers.{status_of}
 use Rattle.salvage_cli.specs.Outcome.{GivesCommand, IsNoCommand, wanted_of}
-use Rattle.salvage_cli.specs.Run.{GivesWanted, EndsWanted, IsEarly, text_of}
+use Rattle.salvage_cli.specs.Run.{GivesWanted, IsEarly, text_of}
 use Rattle.salvage_cli.specs.declared.faults.Fault.{Fault}
-use Rattle.salvage_cli.specs.declared.faults.Fault.TheVariants.{Usage, InputFault, TooLarge, NoPageSize, NoWholePage, ReportFault, Memory}
+use Rattle.salvage_cli.specs.declared.faults.Fault.TheVariants.{Usage, InputFault, TooLarge, NoPageSize, NoWholePage, Utf16, ReportFault, Memory}
 
 -- words that are no command are refused
 pub refused : {A : Type 0} (answer : Result A Fault) → IsNoCommand answer → (status_of answer ≡ 2) ⊎ (status_of answer ≡ 11)
@@ -20,6 +20,7 @@ refused (Err InputFault) h = absurd h
 refused (Err (TooLarge len)) h = absurd h
 refused (Err NoPageSize) h = absurd h
 refused (Err (NoWholePage len size)) h = absurd h
+refused (Err Utf16) h = absurd h
 refused (Err ReportFault) h = absurd h
 
 -- the report holds a front of what is wanted
@@ -41,6 +42,8 @@ front_of (Ok text) old new (Err NoPageSize) h early = absurd cc
 front_of (Err fault) old new (Err NoPageSize) h early = subst (λ (n : Option (List ℕ)). GainsPrefix old n []) (sym (early tt)) (0, Gains-nothing old)
 front_of (Ok text) old new (Err (NoWholePage len size)) h early = absurd cc
 front_of (Err fault) old new (Err (NoWholePage len size)) h early = subst (λ (n : Option (List ℕ)). GainsPrefix old n []) (sym (early tt)) (0, Gains-nothing old)
+front_of (Ok text) old new (Err Utf16) h early = absurd cc
+front_of (Err fault) old new (Err Utf16) h early = subst (λ (n : Option (List ℕ)). GainsPrefix old n []) (sym (early tt)) (0, Gains-nothing old)
 
 -- the same of a run over a source that may tell its bytes
 pub front_told : {A : Type 0} (command : Option Asked) (told old new : Option (List ℕ)) (answer : Result A Fault)

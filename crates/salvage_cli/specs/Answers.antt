@@ -10,7 +10,7 @@ use Rattle.page_access.specs.declared.outside.ReadFault.TheVariants as read
 use Rattle.page_size.specs.declared.finds.GeoFault.{GeoFault}
 use Rattle.page_size.specs.declared.finds.GeoFault.TheVariants as geo
 use Rattle.salvage_cli.specs.declared.faults.Fault.{Fault}
-use Rattle.salvage_cli.specs.declared.faults.Fault.TheVariants.{Usage, InputFault, TooLarge, NoPageSize, NoWholePage, ReportFault, Memory}
+use Rattle.salvage_cli.specs.declared.faults.Fault.TheVariants.{Usage, InputFault, TooLarge, NoPageSize, NoWholePage, Utf16, ReportFault, Memory}
 
 -- the refusal where the words are not read
 abbrev pub of_words : WordsFault → Fault
@@ -42,6 +42,7 @@ fault_status InputFault = 3
 fault_status (TooLarge len) = 5
 fault_status NoPageSize = 4
 fault_status (NoWholePage len size) = 4
+fault_status Utf16 = 12
 fault_status ReportFault = 9
 fault_status Memory = 11
 
@@ -57,6 +58,7 @@ fault_text InputFault = codes "input fault"
 fault_text (TooLarge len) = codes "input too large: " ++ (decimal len ++ codes " bytes")
 fault_text NoPageSize = codes "no page size found"
 fault_text (NoWholePage len size) = codes "no whole page: " ++ (decimal len ++ (codes " bytes, page size " ++ decimal size))
+fault_text Utf16 = codes "UTF-16 database"
 fault_text ReportFault = codes "report fault"
 fault_text Memory = codes "out of memory"
 

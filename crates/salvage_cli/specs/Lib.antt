@@ -1,4 +1,5 @@
 pub mod Answers
 pub mod Outcome
 pub mod Run
+pub mod Schema
 pub mod Wanted

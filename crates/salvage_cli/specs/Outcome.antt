@@ -2,11 +2,11 @@
 use Rattle.std.specs.Prelude.{◌≡◌, ◌⊎◌, ℕ, List, Option, Some, None, Result, Ok, Err, IfSome, ⊤}
 use Rattle.page_access.specs.Outside.{Gains, GainsPrefix, Rose}
 use Rattle.command_line.specs.Parts.{Asked, Word}
-use Rattle.salvage_cli.specs.Answers.{fault_line, fault_status, status_of}
-use Rattle.salvage_cli.specs.Run.{GivesWanted, HasNumbers, text_of}
+use Rattle.salvage_cli.specs.Answers.{fault_line, status_of}
+use Rattle.salvage_cli.specs.Run.{GivesWanted, HasNumbers}
 use Rattle.salvage_cli.specs.Wanted.{wanted}
 use Rattle.salvage_cli.specs.declared.faults.Fault.{Fault}
-use Rattle.salvage_cli.specs.declared.faults.Fault.TheVariants.{Usage, NoPageSize, NoWholePage, Memory}
+use Rattle.salvage_cli.specs.declared.faults.Fault.TheVariants.{Usage, NoPageSize, NoWholePage, Utf16, Memory}
 
 -- what is wanted of an input: a listing or a refusal; of words that are no command, that they are refused
 abbrev pub wanted_of : Option Asked → List ℕ → Result (List ℕ) Fault
@@ -54,7 +54,7 @@ pub record Answered (command : Option Asked) (told old new errors_old errors_new
 
 -- the statuses of refusals that come before anything is listed
 abbrev pub IsEarlyStatus : ℕ → Type 0
-IsEarlyStatus status = (status ≡ 2) ⊎ ((status ≡ 4) ⊎ (status ≡ 5))
+IsEarlyStatus status = (status ≡ 2) ⊎ ((status ≡ 4) ⊎ ((status ≡ 5) ⊎ (status ≡ 12)))
 
 -- no pages are found: nothing tells their size, or it is over the length
 abbrev pub HasNoPages : Result (List ℕ) Fault → Type 0
@@ -62,3 +62,9 @@ HasNoPages (Ok text) = ⊥
 HasNoPages (Err NoPageSize) = ⊤
 HasNoPages (Err (NoWholePage len size)) = ⊤
 HasNoPages (Err fault) = ⊥
+
+-- the mode refuses the file for the encoding of its texts
+abbrev pub IsUtf16 : Result (List ℕ) Fault → Type 0
+IsUtf16 (Ok text) = ⊥
+IsUtf16 (Err Utf16) = ⊤
+IsUtf16 (Err fault) = ⊥

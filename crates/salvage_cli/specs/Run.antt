@@ -1,8 +1,8 @@
 -- What the program does with its five objects (docs/TEXTS.md, "Statuses").
-use Rattle.std.specs.Prelude.{◌≡◌, ◌<◌, ◌^◌, ℕ, List, [], Option, Some, None, Result, Ok, Err, ⊤}
+use Rattle.std.specs.Prelude.{◌≡◌, ◌<◌, ◌^◌, ℕ, List, [], Option, Result, Ok, Err, ⊤}
 use Rattle.page_access.specs.Outside.{Gains, GainsPrefix}
 use Rattle.salvage_cli.specs.declared.faults.Fault.{Fault}
-use Rattle.salvage_cli.specs.declared.faults.Fault.TheVariants.{Usage, InputFault, TooLarge, NoPageSize, NoWholePage, ReportFault, Memory}
+use Rattle.salvage_cli.specs.declared.faults.Fault.TheVariants.{Usage, InputFault, TooLarge, NoPageSize, NoWholePage, Utf16, ReportFault, Memory}
 
 -- the text of a listing, nothing where there is none
 abbrev pub text_of : Result (List ℕ) Fault → List ℕ
@@ -30,6 +30,7 @@ IsEarly (Err Usage) = ⊤
 IsEarly (Err (TooLarge len)) = ⊤
 IsEarly (Err NoPageSize) = ⊤
 IsEarly (Err (NoWholePage len size)) = ⊤
+IsEarly (Err Utf16) = ⊤
 IsEarly (Err fault) = ⊥
 
 -- no refusal that comes before anything is listed

@@ -1,16 +1,19 @@
 -- What a command gives, as a function of the bytes of its input (docs/TEXTS.md, "Listings" and "Statuses").
-use Rattle.std.specs.Prelude.{◌≡◌, ◌<◌, ◌^◌, ℕ, ◌==◌, nat_lt, if◌then◌else◌, List, [], length, Option, Some, None, option_map, Result, Ok, Err, ⊤}
+use Rattle.std.specs.Prelude.{◌≡◌, ◌<◌, ◌^◌, ℕ, ◌==◌, nat_lt, Bool, true, false, ◌&&◌, ◌||◌, if◌then◌else◌, List, [], length, Option, Some, None, option_map, Result, Ok, Err, ⊤}
 use Rattle.command_line.specs.Parts.{Asked}
 use Rattle.command_line.specs.declared.request.Mode.{Mode}
-use Rattle.command_line.specs.declared.request.Mode.TheVariants.{Dbdata, Dbptr}
+use Rattle.command_line.specs.declared.request.Mode.TheVariants.{Dbdata, Dbptr, Schema}
 use Rattle.page_access.specs.Pages.{File}
 use Rattle.page_size.specs.Rule.{Finding, finding, rule}
 use Rattle.page_size.specs.declared.finds.Found.{Found}
+use Rattle.page_size.specs.declared.finds.Origin.{Origin}
+use Rattle.page_size.specs.declared.finds.Origin.TheVariants as origins
 use Rattle.page_size.specs.declared.finds.GeoFault.{GeoFault}
 use Rattle.dbdata_list.specs.Listing.{data_text, pointers_text}
 use Rattle.salvage_cli.specs.Answers.{of_geo}
+use Rattle.salvage_cli.specs.Schema.{schema_text}
 use Rattle.salvage_cli.specs.declared.faults.Fault.{Fault}
-use Rattle.salvage_cli.specs.declared.faults.Fault.TheVariants.{Usage, InputFault, TooLarge, NoPageSize, NoWholePage, ReportFault, Memory}
+use Rattle.salvage_cli.specs.declared.faults.Fault.TheVariants.{Usage, InputFault, TooLarge, NoWholePage, Utf16, ReportFault, Memory}
 
 -- the pages that the rule finds, or its refusal
 abbrev pub pages_by : Result Finding GeoFault → Result (Option Finding) Fault
@@ -31,15 +34,33 @@ file_by bytes f = record { bytes = bytes; size = f.size; usable = f.usable; page
 abbrev pub listing_of : Mode → File → List ℕ
 listing_of Dbdata f = data_text f
 listing_of Dbptr f = pointers_text f
+listing_of Schema f = schema_text f
 
--- the listing of an input, nothing where it is empty
-abbrev pub text_by : Mode → List ℕ → Option Finding → List ℕ
-text_by mode bytes None = []
-text_by mode bytes (Some f) = listing_of mode (file_by bytes f)
+-- the page size is the header's
+abbrev pub is_by_header : Origin → Bool
+is_by_header origins.Header = true
+is_by_header origins.Pages = false
+is_by_header origins.Chosen = false
+is_by_header origins.Empty = false
+
+-- the page size is the header's, and so are texts in UTF-16, of either order of bytes
+abbrev pub is_utf16 : Finding → Bool
+is_utf16 f = is_by_header f.origin && ((f.header.encoding == 2) || (f.header.encoding == 3))
+
+-- the mode lists no such pages: the schema alone names its texts
+abbrev pub refused_by : Mode → Finding → Bool
+refused_by Dbdata f = false
+refused_by Dbptr f = false
+refused_by Schema f = is_utf16 f
+
+-- the listing of an input, nothing where it is empty; or a refusal of its pages
+abbrev pub text_by : Mode → List ℕ → Option Finding → Result (List ℕ) Fault
+text_by mode bytes None = Ok []
+text_by mode bytes (Some f) = if refused_by mode f then Err Utf16 else Ok (listing_of mode (file_by bytes f))
 
 abbrev pub wanted_by : Mode → List ℕ → Result (Option Finding) Fault → Result (List ℕ) Fault
 wanted_by mode bytes (Err fault) = Err fault
-wanted_by mode bytes (Ok pages) = Ok (text_by mode bytes pages)
+wanted_by mode bytes (Ok pages) = text_by mode bytes pages
 
 -- what a command asks of these bytes: a listing, or a refusal
 abbrev pub wanted : Asked → List ℕ → Result (List ℕ) Fault
@@ -57,6 +78,7 @@ abbrev pub IsOfInput : {A : Type 0} → Result A Fault → Type 0
 IsOfInput (Ok x) = ⊤
 IsOfInput (Err Usage) = ⊥
 IsOfInput (Err ReportFault) = ⊥
+IsOfInput (Err Utf16) = ⊥
 IsOfInput (Err (TooLarge len)) = 2 ^ 28 < len
 IsOfInput (Err (NoWholePage len size)) = (0 < len) × (len < size)
 IsOfInput (Err fault) = ⊤

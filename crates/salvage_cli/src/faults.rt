@@ -28,6 +28,8 @@ pub enum Fault {
         /// Bytes of a page.
         size: u32,
     },
+    /// The header says that texts are in UTF-16, and the mode does not list such a file.
+    Utf16,
     /// A call of the report failed.
     ReportFault,
     /// There was no memory.

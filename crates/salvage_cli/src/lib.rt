@@ -7,6 +7,7 @@ mod inputs;
 mod lines;
 mod listings;
 mod runs;
+mod schemas;
 
 pub use adapters::{FileSource, NoSink, StreamSink};
 pub use faults::Fault;

@@ -56,6 +56,7 @@ fn add_text(line: &mut Line, fault: &Fault)
             b" bytes, page size ",
             *size,
         ),
+        Fault::Utf16 => add(line, b"UTF-16 database"),
         Fault::ReportFault => add(line, b"report fault"),
         Fault::Memory => add(line, b"out of memory"),
     }

@@ -4,14 +4,17 @@ ghost use Rattle.page_access.specs.Files.{file_of};
 ghost use Rattle.page_access.specs.Outside.{HasCauseOf, KeepsSink, KeepsSource, WritesOf};
 ghost use Rattle.command_line.specs.Command.{view};
 ghost use Rattle.command_line.specs.Parts.{HasOptions};
-ghost use Rattle.salvage_cli.specs.Wanted.{listing_of, wanted};
+ghost use Rattle.page_size.specs.Rule.{finding};
+ghost use Rattle.salvage_cli.specs.Wanted.{listing_of, refused_by, text_by, wanted};
 ghost use Rattle.salvage_cli.specs.Run.{GivesWanted, HasNumbers, IsEarly, IsLate};
 
 use crate::faults::Fault;
 use crate::inputs::find_pages;
+use crate::schemas::list_schema;
 use command_line::{Mode, Request};
 use dbdata_list::{list_data, list_pointers};
 use page_access::{Geometry, ReadFault, Sink, Source};
+use page_size::{Found, Origin};
 use std::alloc::Global;
 
 /// Lists the input in the report, and finishes the report.
@@ -35,8 +38,43 @@ pub(crate) fn list<S: Source, R: Sink>(
 {
     attach(alloc, request, src)?;
     match find_pages(alloc, request, src)? {
-        Some(found) => put_all(alloc, request.mode, &found.geometry, src, report),
+        Some(found) => put_found(alloc, request.mode, &found, src, report),
         None => finish(report),
+    }
+}
+
+// Lists the pages that were found, but for those that the mode refuses.
+fn put_found<S: Source, R: Sink>(
+    alloc: Global,
+    mode: Mode,
+    found: &Found,
+    src: &mut S,
+    report: &mut R,
+) -> Result<(), Fault>
+    ensures told { IfSome (S.bytes src.old)
+        (λ all. GivesWanted (text_by mode all (Some (finding found.now))) (R.bytes report.old)
+        (R.bytes report.new) result) }
+    ensures finished { OnOk result (R.finished report.new ≡ true) }
+    ensures early { IsEarly result → report.new ≡ report.old }
+    ensures command { IsErrOf result Fault.Usage → ⊥ }
+    ensures numbers { HasNumbers result }
+    ensures source { HasCauseOf Fault.InputFault (S.faults src.old) (S.faults src.new) result }
+    ensures sink { HasCauseOf Fault.ReportFault (R.faults report.old) (R.faults report.new) result }
+    ensures kept { KeepsSource S.bytes S.attached S.faults S.reads src.old src.new }
+{
+    if is_refused(mode, found) {
+        return Err(Fault::Utf16);
+    }
+    put_all(alloc, mode, &found.geometry, src, report)
+}
+
+// Whether the mode lists no such pages.
+fn is_refused(mode: Mode, found: &Found) -> bool
+    ensures { result ≡ refused_by mode (finding found.now) }
+{
+    match mode {
+        Mode::Schema => found.origin == Origin::Header && matches!(found.header.encoding, 2 | 3),
+        Mode::Dbdata | Mode::Dbptr => false,
     }
 }
 
@@ -92,6 +130,7 @@ fn put_listing<S: Source, R: Sink>(
     match mode {
         Mode::Dbdata => list_data(alloc, src, geo, report)?,
         Mode::Dbptr => list_pointers(alloc, src, geo, report)?,
+        Mode::Schema => list_schema(alloc, src, geo, report)?,
     }
     Ok(())
 }

@@ -4,7 +4,7 @@ ghost use Rattle.page_access.specs.Outside.{GainsPrefix, HasCauseOf, Rose};
 ghost use Rattle.command_line.specs.Command.{command_of};
 ghost use Rattle.salvage_cli.specs.Answers.{status_of};
 ghost use Rattle.salvage_cli.specs.Run.{HasNumbers, IsEarly, text_of};
-ghost use Rattle.salvage_cli.specs.Outcome.{Answered, GivesCommand, HasNoPages, IsAttached, IsEarlyStatus, IsListed, IsNoCommand, IsStatusOf, Says, wanted_of};
+ghost use Rattle.salvage_cli.specs.Outcome.{Answered, GivesCommand, HasNoPages, IsAttached, IsEarlyStatus, IsListed, IsNoCommand, IsStatusOf, IsUtf16, Says, wanted_of};
 
 use crate::faults::Fault;
 use crate::lines::put_fault;
@@ -48,6 +48,8 @@ pub fn run<S: Source, O: Sink, T: Sink, R: Sink, E: Sink>(
     ensures too_large { IfSome (S.bytes src.old) (λ all. result ≡ 5 → 2 ^ 28 < length all) }
     ensures no_pages { IfSome (S.bytes src.old)
         (λ all. result ≡ 4 → HasNoPages (wanted_of (command_of (map string_bytes words.now)) all)) }
+    ensures utf16 { IfSome (S.bytes src.old)
+        (λ all. result ≡ 12 → IsUtf16 (wanted_of (command_of (map string_bytes words.now)) all)) }
     ensures input_fault { result ≡ 3 → Rose (S.faults src.old) (S.faults src.new) }
     ensures report_fault { result ≡ 9 → Rose (R.faults report.old) (R.faults report.new) }
     ensures answered { Answered (command_of (map string_bytes words.now)) (S.bytes src.old)
@@ -108,6 +110,7 @@ fn status(answer: &Result<(), Fault>) -> u8
         Err(Fault::TooLarge { .. }) => 5,
         Err(Fault::ReportFault) => 9,
         Err(Fault::Memory) => 11,
+        Err(Fault::Utf16) => 12,
     }
 }
 

@@ -11,6 +11,8 @@ const TWELVE_LINES: &[u8] =
     1 0 4 text:435245415445205441424c45207428612c6229\n2 0 -1 int:1\n2 0 0 int:5\n2 0 1 text:78\n\
     2 1 -1 int:2\n2 1 0 null\n2 1 1 blob:00\n";
 
+const ROW_OF_T: &[u8] = b"1 0 table t t 2 text:435245415445205441424c45207428612c6229\n";
+
 const USE: &[u8] =
     b"db_salvage: use: recover INPUT OUTPUT SCRIPT, dbdata INPUT, dbptr INPUT, schema INPUT, trial N\n";
 
@@ -136,6 +138,16 @@ fn child_is_its_parent(alloc: Global) -> Result<Vec<u8>, Fail> {
     Ok(bytes)
 }
 
+// A run over the two rows, where this call of the source fails.
+fn ran_failing_at(alloc: Global, words: &[&str], call: u64) -> Result<Ran, Fail> {
+    let mut fails = Vec::new(alloc);
+    fails.push(call)?;
+    let mut src = MemSource::new(two_rows(alloc)?, fails);
+    let report = MemSink::new(alloc, ROOM, no_failure(alloc))?;
+    let errors = MemSink::new(alloc, ROOM, no_failure(alloc))?;
+    ran_over(alloc, words, &mut src, report, errors)
+}
+
 #[test]
 fn two_rows_give_twelve_lines(rt: HostRuntime) -> Result<(), Fail> {
     let done = ran_on(rt.alloc(), &["dbdata", "a"], two_rows(rt.alloc())?)?;
@@ -170,6 +182,52 @@ fn pointers_are_listed_whatever_they_name(rt: HostRuntime) -> Result<(), Fail> {
     )?;
     assert_eq!(rt; done.status, 0);
     assert_eq!(rt; done.report.as_slice(), b"2 2\n2 3\n".as_slice());
+    Ok(())
+}
+
+#[test]
+fn the_schema_has_the_row_of_its_table(rt: HostRuntime) -> Result<(), Fail> {
+    let done = ran_on(rt.alloc(), &["schema", "a"], two_rows(rt.alloc())?)?;
+    assert_eq!(rt; done.status, 0);
+    assert_eq!(rt; done.report.as_slice(), ROW_OF_T);
+    assert_eq!(rt; done.errors.len(), 0);
+    Ok(())
+}
+
+#[test]
+fn a_row_of_no_kind_is_bad(rt: HostRuntime) -> Result<(), Fail> {
+    let mut bytes = two_rows(rt.alloc())?;
+    place(bytes.as_mut_slice(), 485, b"T");
+    let done = ran_on(rt.alloc(), &["schema", "a"], bytes)?;
+    assert_eq!(rt; done.status, 0);
+    assert_eq!(rt; done.report.as_slice(), b"1 0 bad\n".as_slice());
+    Ok(())
+}
+
+// The file of two rows, whose header says that its texts are in UTF-16.
+fn in_utf16(alloc: Global) -> Result<Vec<u8>, Fail> {
+    let mut bytes = two_rows(alloc)?;
+    place(bytes.as_mut_slice(), 59, b"\x02");
+    Ok(bytes)
+}
+
+#[test]
+fn the_schema_in_utf16_is_refused(rt: HostRuntime) -> Result<(), Fail> {
+    let done = ran_on(rt.alloc(), &["schema", "a"], in_utf16(rt.alloc())?)?;
+    assert_eq!(rt; done.status, 12);
+    assert_eq!(rt; done.report.len(), 0);
+    assert_eq!(rt;
+        done.errors.as_slice(),
+        b"db_salvage: UTF-16 database\n".as_slice()
+    );
+    Ok(())
+}
+
+#[test]
+fn values_in_utf16_are_listed_as_they_stand(rt: HostRuntime) -> Result<(), Fail> {
+    let done = ran_on(rt.alloc(), &["dbdata", "a"], in_utf16(rt.alloc())?)?;
+    assert_eq!(rt; done.status, 0);
+    assert_eq!(rt; done.report.as_slice(), TWELVE_LINES);
     Ok(())
 }
 
@@ -248,12 +306,7 @@ fn one_byte_over_the_limit_is_too_large(rt: HostRuntime) -> Result<(), Fail> {
 fn each_call_of_the_source_that_fails_is_an_input_fault(rt: HostRuntime) -> Result<(), Fail> {
     let alloc = rt.alloc();
     for call in 1..6u64 {
-        let mut fails = Vec::new(alloc);
-        fails.push(call)?;
-        let mut src = MemSource::new(two_rows(alloc)?, fails);
-        let report = MemSink::new(alloc, ROOM, no_failure(alloc))?;
-        let errors = MemSink::new(alloc, ROOM, no_failure(alloc))?;
-        let done = ran_over(alloc, &["dbdata", "a"], &mut src, report, errors)?;
+        let done = ran_failing_at(alloc, &["dbdata", "a"], call)?;
         assert_eq!(rt; done.status, 3);
         assert_eq!(rt;
             done.errors.as_slice(),
@@ -261,6 +314,17 @@ fn each_call_of_the_source_that_fails_is_an_input_fault(rt: HostRuntime) -> Resu
         );
         assert!(rt; TWELVE_LINES.starts_with(done.report.as_slice()));
         assert!(rt; call == 5 || done.report.is_empty());
+    }
+    Ok(())
+}
+
+#[test]
+fn each_call_under_the_schema_that_fails_is_an_input_fault(rt: HostRuntime) -> Result<(), Fail> {
+    let alloc = rt.alloc();
+    for call in 1..8u64 {
+        let done = ran_failing_at(alloc, &["schema", "a"], call)?;
+        assert_eq!(rt; done.status, 3);
+        assert_eq!(rt; done.report.len(), 0);
     }
     Ok(())
 }

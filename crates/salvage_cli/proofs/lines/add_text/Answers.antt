@@ -1,4 +1,3 @@
-use Rattle.std.proofs.Common.{rules}
 use Rattle.salvage_cli.specs.Answers.{fault_text}
 use Rattle.salvage_cli.proofs.lines.add_text.Goals as goal
 

@@ -1,5 +1,5 @@
 use Rattle.std.proofs.Common.{◌≡◌, ap, subst, sym, ◌⊎◌, ℕ}
-use Rattle.salvage_cli.proofs.Causes.{complete_told, no_pages_told, over_told}
+use Rattle.salvage_cli.proofs.Causes.{complete_told, no_pages_told, over_told, utf16_told}
 use Rattle.salvage_cli.proofs.Outcomes.{front_told, refused}
 use Rattle.salvage_cli.proofs.runs.run.Goals as goal
 
@@ -28,3 +28,6 @@ returns-clause-too_large g c = rw c.status.ensures (over_told _ _ _ _ c.answer-a
 
 pub returns-clause-no_pages : goal.returns-clause-no_pages
 returns-clause-no_pages g c = rw c.status.ensures (no_pages_told _ _ _ _ c.answer-answer.result c.answer-answer.ensures.told)
+
+pub returns-clause-utf16 : goal.returns-clause-utf16
+returns-clause-utf16 g c = rw c.status.ensures (utf16_told _ _ _ _ c.answer-answer.result c.answer-answer.ensures.told)

@@ -1,15 +1,26 @@
 -- Pages that a walk takes, one after another.
-use Rattle.std.proofs.Common.{◌≡◌, ◌<◌, ◌≤◌, ℕ, ◌+◌, Option, List, [], ◌∷◌, ◌++◌, length, take, get_or, sym, ◌∙◌, ap, subst, append_assoc}
+use Rattle.std.proofs.Common.{◌≡◌, ◌<◌, ◌≤◌, ℕ, ◌+◌, Option, List, [], ◌∷◌, ◌++◌, length, take, get_or, sym, ◌∙◌, ap, subst, arith, append_assoc}
 use Rattle.std.proofs.lemmas.List.{take_more}
 use Rattle.std.proofs.lemmas.List.Elements.{filter-append}
 use Rattle.std.specs.List.{filter}
 use Rattle.page_lists.specs.Lists.{IsPartOf, firsts, minus}
-use Rattle.page_lists.specs.Table.{Table, all_moved, unused}
-use Rattle.page_lists.proofs.Counts.{firsts_part}
-use Rattle.page_lists.proofs.Uses.{all_moved-append, pages-all_moved, unused-all_moved}
+use Rattle.page_lists.specs.Table.{IsPartition, Table, all_moved, unused}
+use Rattle.page_lists.proofs.Counts.{firsts_part, in_head, in_part}
+use Rattle.page_lists.proofs.Uses.{all_moved-append, pages-all_moved, unused-all_moved, unused_page}
 use Rattle.cell_reader.specs.declared.shapes.Kind.{Kind}
+use Rattle.page_walk.specs.Bounds.{ArePages}
 use Rattle.page_walk.specs.Taking.{Took, is_of_kind, takes}
 use Rattle.page_walk.proofs.Queue.{firsts-append}
+
+-- unused pages are pages of the file
+pub part_are_pages : (ps : List ℕ) (pages : ℕ) (t : Table) → IsPartition t → t.pages ≡ pages → IsPartOf ps (unused t)
+    → ArePages pages ps
+part_are_pages [] pages t each same part = tt
+part_are_pages (p ∷ ps) pages t each same part =
+    let page = unused_page t p each (in_part p (p ∷ ps) (unused t) part (in_head p ps)) in (
+      (page.0, omega (arith, page.1, same)),
+      part_are_pages ps pages t each same (λ q. omega (arith, part q)),
+    )
 
 -- what is taken was unused
 pub takes_part : (kinds : List (Option Kind)) (kind : Kind) (t : Table) (qs : List ℕ) → IsPartOf (takes kinds kind t qs) (unused t)

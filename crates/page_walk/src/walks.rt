@@ -3,8 +3,9 @@ ghost use Rattle.std.specs.Prelude.{◌≡◌, ◌≤◌, ◌<◌, ◌+◌, ◌&
 ghost use Rattle.page_access.specs.Files.{file_of};
 ghost use Rattle.page_access.specs.Outside.{HasCauseOf, KeepsSource};
 ghost use Rattle.page_access.specs.declared.outside.ReadFault.TheVariants as faults;
-ghost use Rattle.page_lists.specs.Lists.{is_in};
+ghost use Rattle.page_lists.specs.Lists.{IsPartOf, is_in};
 ghost use Rattle.page_lists.specs.Table.{Moves, all_moved, unused};
+ghost use Rattle.page_walk.specs.Bounds.{ArePages};
 ghost use Rattle.page_walk.specs.Reach.{IsTree};
 ghost use Rattle.page_walk.specs.Taking.{Took, is_of_kind, takes};
 ghost use Rattle.page_walk.specs.Turns.{ReadsEach};
@@ -35,12 +36,16 @@ pub fn walk_tree<S: Source>(
     requires list_least { 1 ≤ list }
     requires list_most { list < length table.old.lists }
     requires surveyed { length survey.now ≡ geo.now.pages }
-    requires kinds { IfSome (S.bytes src.old) (λ all. survey.now ≡ kinds_of (file_of all geo.now)) }
+    requires kinds { IfSome (S.bytes src.old)
+        (λ all. survey.now ≡ kinds_of (file_of all geo.now)) }
     ensures value { IfOk result (λ v. IfSome (S.bytes src.old)
         (λ all. v.items ≡ walk (file_of all geo.now) (unused table.old) root kind)) }
     ensures tree { IfOk result (λ v. IfSome (S.bytes src.old)
         (λ all. IsTree (file_of all geo.now) (unused table.old) root kind v.items)) }
     ensures moved { IfOk result (λ v. table.new ≡ all_moved v.items list table.old) }
+    // told or not: unused pages of the file, each once
+    ensures part { IfOk result (λ v. IsPartOf v.items (unused table.old)) }
+    ensures bound { IfOk result (λ v. ArePages geo.now.pages v.items) }
     ensures cause { HasCauseOf faults.Source (S.faults src.old) (S.faults src.new) result }
     ensures kept { KeepsSource S.bytes S.attached S.faults S.reads src.old src.new }
     ensures moves { Moves list table.old table.new }

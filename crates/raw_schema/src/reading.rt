@@ -50,7 +50,8 @@ pub fn read_schema<S: Source>(
     requires same_pages { table.old.pages ≡ geo.now.pages }
     requires lists { 7 ≤ length table.old.lists }
     requires surveyed { length survey.now ≡ geo.now.pages }
-    requires kinds { IfSome (S.bytes src.old) (λ all. survey.now ≡ kinds_of (file_of all geo.now)) }
+    requires kinds { IfSome (S.bytes src.old)
+        (λ all. survey.now ≡ kinds_of (file_of all geo.now)) }
     ensures rows { IfOk result (λ s. IfSome (S.bytes src.old)
         (λ all. s.rows.items ≡ schema_rows (file_of all geo.now) (unused table.old))) }
     ensures bad { IfOk result (λ s. IfSome (S.bytes src.old)
@@ -72,8 +73,6 @@ pub fn read_schema<S: Source>(
     ensures reads { ReadsTwice (S.bytes src.old) geo.now table.old table.new
         (S.reads src.old) (S.reads src.new) (if is_ok result then 0 else 1) }
 {
-    // tells that the table is a partition
-    let _pages = table.pages();
     let pages = walk_tree(alloc, src, geo, survey, table, 1, Kind::Table, SCHEMA_LIST)?;
     read_pages(alloc, src, geo, table, pages)
 }

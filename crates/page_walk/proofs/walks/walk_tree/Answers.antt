@@ -5,6 +5,7 @@ use Rattle.page_lists.proofs.Counts.{length-minus}
 use Rattle.page_lists.proofs.Uses.{Moves-append, Moves-none}
 use Rattle.page_access.specs.Files.{IsWhole}
 use Rattle.page_walk.proofs.Going.{always_told}
+use Rattle.page_walk.proofs.Taking.{part_are_pages}
 use Rattle.page_walk.proofs.Walking.{no_reads, walking_start, walking_page, walking_moves, walking_more, walking_value, walking_reads, walked_tree, slice_named}
 use Rattle.page_walk.proofs.walks.walk_tree.Goals as goal
 
@@ -70,6 +71,11 @@ returns-clause-value g c =
 
 pub returns-clause-moves : goal.returns-clause-moves
 returns-clause-moves g c = walking_moves c.loop-at.invariant.walking
+
+pub returns-clause-bound : goal.returns-clause-bound
+returns-clause-bound g c =
+    part_are_pages c.loop-at.found.items c.args.geo.now.pages c.args.table.now c.pages.ensures.partition c.requires.same_pages
+    c.loop-at.invariant.walking.part
 
 pub returns-clause-tree : goal.returns-clause-tree
 returns-clause-tree g c =

@@ -1,4 +1,4 @@
-use Rattle.std.proofs.Common.{◌≡◌, arith, map}
+use Rattle.std.proofs.Common.{◌≡◌, map}
 use Rattle.std.specs.List.{AllByRecursion, flat_map}
 use Rattle.page_walk.specs.Evidence.{Evidence}
 use Rattle.page_lists.specs.Table.{all_moved}
@@ -6,14 +6,8 @@ use Rattle.overflow_chain.specs.declared.TheConstants.{OVERFLOW_LIST}
 use Rattle.page_walk.specs.Cells.{row_of}
 use Rattle.page_walk.specs.Turns.{chains_on, turns_on}
 use Rattle.raw_schema.specs.Schema.{after_schema, bad_in, bad_rows, cells_in, entries_in, noted, schema_notes, schema_rows}
-use Rattle.raw_schema.proofs.Tree.{at_tree, moved_are_pages, reads_at_err, reads_in_all}
+use Rattle.raw_schema.proofs.Tree.{at_tree, reads_at_err, reads_in_all}
 use Rattle.raw_schema.proofs.reading.read_schema.Goals as goal
-
-pub read_pages-requires-clause-pages : goal.read_pages-requires-clause-pages
-read_pages-requires-clause-pages g c =
-    moved_are_pages c.in_ok-pages.pages.items 1 c.args.geo.now.pages c.args.table.now c.walk_tree.new.table
-    c.pages-pages.ensures.partition c.requires.same_pages (omega arith) (omega (arith, c.requires.lists)) c.walk_tree.ensures.moves
-    c.in_ok-pages.ensures.moved
 
 pub returns-in_err-pages-clause-reads : goal.returns-in_err-pages-clause-reads
 returns-in_err-pages-clause-reads g c =
@@ -56,5 +50,5 @@ returns-clause-table g c =
 pub returns-clause-reads : goal.returns-clause-reads
 returns-clause-reads g c =
     reads_in_all _ _ c.args.geo.now c.in_ok-pages.pages.items c.args.table.now c.walk_tree.new.table c.read_pages.new.table _ _ _ _
-    c.walk_tree.ensures.kept.told c.in_ok-pages.ensures.value c.in_ok-pages.ensures.moved c.read_pages.ensures.moves
+    c.walk_tree.ensures.kept.told c.in_ok-pages.ensures.part c.in_ok-pages.ensures.moved c.read_pages.ensures.moves
     c.in_ok-pages.ensures.reads c.read_pages.ensures.reads

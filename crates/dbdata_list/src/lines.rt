@@ -233,8 +233,8 @@ fn put_name<R: Sink>(
     to.put(line.as_slice())
 }
 
-/// Puts two small hexadecimal digits for each byte, at most 128 digits in one call of the sink. After an
-/// error the digits before some place are there.
+/// Puts two small hexadecimal digits for each byte, at most 128 digits in one call of the sink.
+/// After an error a front of the digits is there.
 pub fn put_hex<R: Sink>(to: &mut R, bytes: &[u8]) -> Result<(), Failed>
     ensures writes { Writes (R.bytes to.old) (R.bytes to.new) (R.faults to.old) (R.faults to.new)
         (encode_lower bytes.now) result }
@@ -275,8 +275,8 @@ fn head(page: u32, cell: u32, field: &[u8]) -> Line
     line
 }
 
-/// The beginning of a cell's line: the number of its page, counted from 1, and its own number there,
-/// counted from 0, a space behind each. These are 42 bytes at most.
+/// The beginning of a cell's line: the number of its page, counted from 1, and its own number
+/// there, counted from 0, with a space behind each. These are 42 bytes at most.
 #[tactic(auto, unfolding(crate::specs::Text::place_text))]
 pub fn place(page: u64, cell: u64) -> Line
     ensures text { result.items ≡ place_text page cell }

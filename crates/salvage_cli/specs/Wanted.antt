@@ -43,11 +43,11 @@ is_by_header origins.Pages = false
 is_by_header origins.Chosen = false
 is_by_header origins.Empty = false
 
--- the page size is the header's, and so are texts in UTF-16, of either order of bytes
+-- the page size is the header's, and the header says that texts are in UTF-16: its encoding is 2 or 3
 abbrev pub is_utf16 : Finding → Bool
 is_utf16 f = is_by_header f.origin && ((f.header.encoding == 2) || (f.header.encoding == 3))
 
--- the mode lists no such pages: the schema alone names its texts
+-- the mode refuses the pages for the encoding of their texts: the schema alone, whose words are read as UTF-8
 abbrev pub refused_by : Mode → Finding → Bool
 refused_by Dbdata f = false
 refused_by Dbptr f = false

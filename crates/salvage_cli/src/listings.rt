@@ -68,7 +68,7 @@ fn put_found<S: Source, R: Sink>(
     put_all(alloc, mode, &found.geometry, src, report)
 }
 
-// Whether the mode lists no such pages.
+// Whether the mode refuses the pages for the encoding of their texts.
 fn is_refused(mode: Mode, found: &Found) -> bool
     ensures { result ≡ refused_by mode (finding found.now) }
 {

@@ -37,8 +37,8 @@ pub(crate) fn list_schema<S: Source, R: Sink>(
 // The schema of a file, over a new table of its pages.
 #[tactic(auto, unfolding(crate::specs::Schema::schema_text))]
 fn schema_of<S: Source>(alloc: Global, src: &mut S, geo: &Geometry) -> Result<RawSchema, ReadFault>
-    ensures text { IfOk result (λ s. IfSome (S.bytes src.old)
-        (λ all. lines_text s.rows.items (map row_of s.bad.items) ≡ schema_text (file_of all geo.now))) }
+    ensures text { IfOk result (λ s. IfSome (S.bytes src.old) (λ all.
+        lines_text s.rows.items (map row_of s.bad.items) ≡ schema_text (file_of all geo.now))) }
     ensures source { HasCauseOf ReadFault.Source (S.faults src.old) (S.faults src.new) result }
     ensures kept { KeepsSource S.bytes S.attached S.faults S.reads src.old src.new }
 {

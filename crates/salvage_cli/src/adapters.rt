@@ -1,6 +1,6 @@
 //! The real objects of the outside: a file, and the standard streams. They tell no bytes, and count
 //! each error of the system as a fault.
-ghost use Rattle.std.specs.Prelude.{None, false, ◌-◌, ◌^◌, string_bytes};
+ghost use Rattle.std.specs.Prelude.{◌≡◌, IsErr, None, false, ◌-◌, ◌^◌, string_bytes};
 ghost use Rattle.std.specs.Option.{option_map};
 
 use page_access::{Failed, Sink, Source};
@@ -27,7 +27,11 @@ where
     R::File: Drop,
 {
     /// No file yet.
-    pub fn new(rt: &'a R) -> Self {
+    pub fn new(rt: &'a R) -> Self
+        ensures name { result.name ≡ None }
+        ensures faults { result.faults ≡ 0 }
+        ensures reads { result.reads ≡ 0 }
+    {
         FileSource {
             rt,
             file: None,
@@ -98,7 +102,11 @@ pub struct StreamSink<W: Write + Drop> {
 
 impl<W: Write + Drop> StreamSink<W> {
     /// Nothing is put yet.
-    pub fn new(writer: W) -> Self {
+    pub fn new(writer: W) -> Self
+        ensures name { result.name ≡ None }
+        ensures finished { result.finished ≡ false }
+        ensures faults { result.faults ≡ 0 }
+    {
         StreamSink {
             writer,
             name: None,
@@ -156,15 +164,21 @@ impl Sink for NoSink {
 
     ghost faults = { λ _. 2 ^ 64 - 1 };
 
-    fn create(&mut self, _name: String) -> Result<(), Failed> {
+    fn create(&mut self, _name: String) -> Result<(), Failed>
+        ensures { IsErr result }
+    {
         Err(Failed)
     }
 
-    fn put(&mut self, _piece: &[u8]) -> Result<(), Failed> {
+    fn put(&mut self, _piece: &[u8]) -> Result<(), Failed>
+        ensures { IsErr result }
+    {
         Err(Failed)
     }
 
-    fn finish(&mut self) -> Result<(), Failed> {
+    fn finish(&mut self) -> Result<(), Failed>
+        ensures { IsErr result }
+    {
         Err(Failed)
     }
 }

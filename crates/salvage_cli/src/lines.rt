@@ -67,7 +67,8 @@ fn add_number(line: &mut Line, before: &[u8], number: u64, behind: &[u8])
     requires { array_vec_len line.old + length before.now + length behind.now ≤ 100 }
     ensures text { line.new.items ≡ line.old.items ++
         (before.now ++ (decimal number ++ behind.now)) }
-    ensures len { array_vec_len line.new ≤ array_vec_len line.old + length before.now + length behind.now + 20 }
+    ensures len { array_vec_len line.new
+        ≤ array_vec_len line.old + length before.now + length behind.now + 20 }
 {
     add(line, before);
     add(line, Buffer::new().format(number).as_bytes());
@@ -79,7 +80,8 @@ fn add_numbers(line: &mut Line, first: &[u8], len: u64, second: &[u8], size: u32
     requires { array_vec_len line.old + length first.now + length second.now ≤ 80 }
     ensures text { line.new.items ≡ line.old.items ++
         (first.now ++ (decimal len ++ (second.now ++ decimal size))) }
-    ensures len { array_vec_len line.new ≤ array_vec_len line.old + length first.now + length second.now + 40 }
+    ensures len { array_vec_len line.new
+        ≤ array_vec_len line.old + length first.now + length second.now + 40 }
 {
     add_number(line, first, len, second);
     add(line, Buffer::new().format(size).as_bytes());

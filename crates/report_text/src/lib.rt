@@ -1,6 +1,7 @@
 //! The lines of the program's texts, one variant each (docs/TEXTS.md, "Listings").
 #![tactic(auto)]
 
+mod laws;
 mod lines;
 mod names;
 
@@ -8,6 +9,7 @@ ghost use Rattle.std.specs.Prelude.{◌≡◌};
 ghost use Rattle.page_access.specs.Outside.{KeepsSink, Writes};
 ghost use Rattle.report_text.specs.Lines.{line_text};
 
+pub use laws::names_are_told_apart;
 use lines::{put_bad, put_end, put_start};
 use names::put_name;
 use page_access::{Failed, Sink};

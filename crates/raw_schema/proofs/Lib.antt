@@ -1,5 +1,6 @@
 pub mod Lists
 pub mod Small
 pub mod Sorting
+pub mod Spelled
 pub mod Tree
 pub mod Turns

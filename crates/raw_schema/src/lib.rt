@@ -2,9 +2,11 @@
 #![tactic(auto)]
 
 mod entries;
+mod laws;
 mod reading;
 mod rows;
 
+pub use laws::rows_are_spelled;
 pub use reading::{RawSchema, read_schema};
 pub use rows::{SchemaKind, SchemaRow};
 

@@ -6,7 +6,8 @@ use Rattle.page_access.specs.Outside.{Writes}
 use Rattle.page_access.proofs.Gains.{WroteFront, front_as, front_start, writes_same}
 use Rattle.dbdata_list.specs.Text.{newline, place_text, value_text}
 use Rattle.raw_schema.specs.declared.rows.SchemaKind.{SchemaKind}
-use Rattle.report_text.specs.Lines.{kind_text, line_text, sql_value}
+use Rattle.raw_schema.specs.Spelling.{kind_text}
+use Rattle.report_text.specs.Lines.{line_text, sql_value}
 use Rattle.report_text.specs.Names.{esc}
 use Rattle.report_text.specs.declared.ReportLine.{ReportLine}
 use Rattle.report_text.specs.declared.ReportLine.TheVariants.{Row}

@@ -4,18 +4,10 @@ use Rattle.std.specs.Fmt.{signed_decimal}
 use Rattle.record_core.specs.declared.values.Value.{Value}
 use Rattle.record_core.specs.declared.values.Value.TheVariants as values
 use Rattle.dbdata_list.specs.Text.{newline, place_text, value_text}
-use Rattle.raw_schema.specs.declared.rows.SchemaKind.{SchemaKind}
-use Rattle.raw_schema.specs.declared.rows.SchemaKind.TheVariants.{Table, Index, View, Trigger}
+use Rattle.raw_schema.specs.Spelling.{kind_text}
 use Rattle.report_text.specs.declared.ReportLine.{ReportLine}
 use Rattle.report_text.specs.declared.ReportLine.TheVariants.{Row, BadRow}
 use Rattle.report_text.specs.Names.{esc}
-
--- the word for what a row of the schema describes
-abbrev pub kind_text : SchemaKind → List ℕ
-kind_text Table = codes "table"
-kind_text Index = codes "index"
-kind_text View = codes "view"
-kind_text Trigger = codes "trigger"
 
 -- the statement of a row as a value
 abbrev pub sql_value : Option (List ℕ) → Value

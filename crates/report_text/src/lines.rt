@@ -5,7 +5,8 @@ ghost use Rattle.arrayvec.specs.ArrayVec.{array_vec_len};
 ghost use Rattle.hex.specs.Hex.{encode_lower};
 ghost use Rattle.page_access.specs.Outside.{KeepsSink, Writes};
 ghost use Rattle.dbdata_list.specs.Text.{newline, place_text, value_text};
-ghost use Rattle.report_text.specs.Lines.{kind_text, line_text, sql_value};
+ghost use Rattle.raw_schema.specs.Spelling.{kind_text};
+ghost use Rattle.report_text.specs.Lines.{line_text, sql_value};
 ghost use Rattle.report_text.specs.declared.ReportLine.TheVariants.{BadRow};
 
 use dbdata_list::{Line, add, place, put_hex};

@@ -1,6 +1,6 @@
 -- Few and small cells give few and small rows.
 use Rattle.std.proofs.Common.{◌≡◌, ◌≤◌, ℕ, ◌+◌, if◌then◌else◌, Bool, true, false, Option, Some, None, List, [], ◌∷◌, length, map, filter, is_none, refl, sym, ap, arith}
-use Rattle.std.specs.Prelude.{ℤ, sum_by}
+use Rattle.std.specs.Prelude.{option_and_then, sum_by}
 use Rattle.std.specs.List.{AllByRecursion, cons_option}
 use Rattle.std.proofs.lemmas.List.Sums.{sum_by-cons}
 use Rattle.record_core.specs.declared.values.Value.{Value}
@@ -9,12 +9,12 @@ use Rattle.page_walk.specs.declared.outcomes.Place.{Place}
 use Rattle.page_walk.specs.declared.outcomes.TakenCell.{TakenCell}
 use Rattle.page_walk.specs.Bounds.{IsSmallRow, value_len}
 use Rattle.page_walk.specs.Cells.{row_of}
-use Rattle.raw_schema.specs.declared.rows.SchemaKind.{SchemaKind}
 use Rattle.raw_schema.specs.declared.rows.SchemaRow.{SchemaRow}
 use Rattle.raw_schema.specs.Bounds.{IsSmallBad, IsSmallEntry, sql_len}
-use Rattle.raw_schema.specs.Rows.{entry_of, row_in, row_with, sql_in, text_in}
+use Rattle.raw_schema.specs.Rows.{entry_of, kind_named, root_in, row_in, sql_in, text_in}
 use Rattle.raw_schema.specs.Schema.{entries_in}
 use Rattle.raw_schema.proofs.Sorting.{others}
+use Rattle.raw_schema.proofs.Spelled.{parts}
 
 -- a text is the bytes of its value
 text_len : (v : Value) (text : List ℕ) → text_in v ≡ Some text → length text ≤ value_len v
@@ -32,31 +32,6 @@ statement_len (Real8 bytes) sql e = absurd (cc)
 statement_len (Text bytes) sql e = let same : Some bytes ≡ sql = cc in omega (arith, ap sql_len same)
 statement_len (Blob bytes) sql e = absurd (cc)
 
--- what the row of five values holds
-record Holds (place : Place) (name tbl : Option (List ℕ)) (sql : Option (Option (List ℕ))) (row : SchemaRow) : Type 0 where
-  name_is : name ≡ Some row.name
-  tbl_is : tbl ≡ Some row.tbl
-  sql_is : sql ≡ Some row.sql
-  place_is : row.place ≡ place
-
--- a row of five values holds what they give
-row_holds : (place : Place) (kind : Option SchemaKind) (name tbl : Option (List ℕ)) (root : Option ℤ) (sql : Option (Option (List ℕ)))
-    (row : SchemaRow) → row_with place kind name tbl root sql ≡ Some row → Holds place name tbl sql row
-row_holds place None name tbl root sql row e = absurd (cc)
-row_holds place (Some k) None tbl root sql row e = absurd (cc)
-row_holds place (Some k) (Some n) None root sql row e = absurd (cc)
-row_holds place (Some k) (Some n) (Some t) None sql row e = absurd (cc)
-row_holds place (Some k) (Some n) (Some t) (Some r) None row e = absurd (cc)
-row_holds place (Some k) (Some n) (Some t) (Some r) (Some s) row e =
-    let made : SchemaRow = record { kind = k; name = n; tbl = t; root = r; sql = s; place = place } in
-    let same : made ≡ row = cc in
-    record {
-      name_is = ap (λ (x : SchemaRow). Some x.name) same;
-      tbl_is = ap (λ (x : SchemaRow). Some x.tbl) same;
-      sql_is = ap (λ (x : SchemaRow). Some x.sql) same;
-      place_is = sym (ap (λ (x : SchemaRow). x.place) same);
-    }
-
 -- the texts of a row are not longer than the values that it stands for
 row_short : (place : Place) (fields : List Value) (row : SchemaRow) → row_in place fields ≡ Some row
     → (length row.name + length row.tbl + sql_len row.sql ≤ sum_by value_len fields) × (row.place ≡ place)
@@ -66,19 +41,19 @@ row_short place (a ∷ b ∷ []) row e = absurd (cc)
 row_short place (a ∷ b ∷ c ∷ []) row e = absurd (cc)
 row_short place (a ∷ b ∷ c ∷ d ∷ []) row e = absurd (cc)
 row_short place (kind ∷ name ∷ tbl ∷ root ∷ sql ∷ []) row e =
-    let h : Holds place (text_in name) (text_in tbl) (sql_in sql) row = row_holds place _ _ _ _ _ row e in (
+    let h = parts place (option_and_then kind_named (text_in kind)) (text_in name) (text_in tbl) (root_in root) (sql_in sql) row e in (
       omega (
         arith,
-        text_len name row.name h.name_is,
-        text_len tbl row.tbl h.tbl_is,
-        statement_len sql row.sql h.sql_is,
+        text_len name row.name h.name_there,
+        text_len tbl row.tbl h.tbl_there,
+        statement_len sql row.sql h.sql_there,
         sum_by-cons value_len kind (name ∷ tbl ∷ root ∷ sql ∷ []),
         sum_by-cons value_len name (tbl ∷ root ∷ sql ∷ []),
         sum_by-cons value_len tbl (root ∷ sql ∷ []),
         sum_by-cons value_len root (sql ∷ []),
         sum_by-cons value_len sql [],
       ),
-      h.place_is,
+      sym h.place_there,
     )
 row_short place (a ∷ b ∷ c ∷ d ∷ e ∷ f ∷ rest) row h = absurd (cc)
 

@@ -88,7 +88,7 @@ pub record Parts (place : Place) (kind : Option SchemaKind) (name tbl : Option (
   pub sql_there : sql ≡ Some row.sql
   pub place_there : place ≡ row.place
 
-parts : (place : Place) (kind : Option SchemaKind) (name tbl : Option (List ℕ)) (root : Option ℤ) (sql : Option (Option (List ℕ)))
+pub parts : (place : Place) (kind : Option SchemaKind) (name tbl : Option (List ℕ)) (root : Option ℤ) (sql : Option (Option (List ℕ)))
     (row : SchemaRow) → row_with place kind name tbl root sql ≡ Some row → Parts place kind name tbl root sql row
 parts place None name tbl root sql row e = absurd cc
 parts place (Some k) None tbl root sql row e = absurd cc

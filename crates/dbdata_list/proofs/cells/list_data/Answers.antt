@@ -17,7 +17,7 @@ pub loop-done-init : goal.loop-done-init
 loop-done-init g c = (
   told_start _ _ _ _ _ (λ all. data_all (file_of all c.args.geo.now) _ c.in_ok-table.ensures.value),
   KeepsSource-refl _ _ _ _ _,
-  KeepsSink-refl _ _ _,
+  KeepsSink-refl _ _ _ _,
   ap (λ (t : Table). t.pages) c.in_ok-table.ensures.value,
   subst (λ (t : Table). 7 ≤ length t.lists) (sym c.in_ok-table.ensures.value) (lit≤ tt),
 )

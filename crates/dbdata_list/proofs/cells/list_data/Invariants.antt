@@ -14,6 +14,6 @@ invariant-loop-done g l =
     ToldFront (s.bytes l.initial.src) (r.bytes l.initial.to) (r.bytes l.to) (r.faults l.initial.to) (r.faults l.to)
     (λ all. pages_data (file_of all l.geo) (l.geo.pages - l.done) (l.done + 1) (unused l.table)) (λ all. data_text (file_of all l.geo))
     × KeepsSource s.bytes s.attached s.faults s.reads l.initial.src l.src
-    × KeepsSink r.created r.faults l.initial.to l.to
+    × KeepsSink r.created r.finished r.faults l.initial.to l.to
     × (l.table.pages ≡ l.geo.pages)
     × (7 ≤ length l.table.lists)

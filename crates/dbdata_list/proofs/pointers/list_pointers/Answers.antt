@@ -11,7 +11,7 @@ unfolding pointers_text
 loop-done-init g c = (
   told_start _ _ _ _ _ (λ all. pages_all (page_pointers (file_of all c.args.geo.now)) c.args.geo.now.pages),
   KeepsSource-refl _ _ _ _ _,
-  KeepsSink-refl _ _ _,
+  KeepsSink-refl _ _ _ _,
 )
 
 pub returns-in_err-list_page-clause-text : goal.returns-in_err-list_page-clause-text

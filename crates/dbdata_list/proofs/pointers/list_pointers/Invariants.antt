@@ -13,4 +13,4 @@ invariant-loop-done g l =
     ToldFront (s.bytes l.initial.src) (r.bytes l.initial.to) (r.bytes l.to) (r.faults l.initial.to) (r.faults l.to)
     (λ all. pages_text (page_pointers (file_of all l.geo)) (l.geo.pages - l.done) (l.done + 1)) (λ all. pointers_text (file_of all l.geo))
     × KeepsSource s.bytes s.attached s.faults s.reads l.initial.src l.src
-    × KeepsSink r.created r.faults l.initial.to l.to
+    × KeepsSink r.created r.finished r.faults l.initial.to l.to

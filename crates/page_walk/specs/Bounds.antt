@@ -7,7 +7,7 @@ use Rattle.record_core.specs.declared.values.Value.{Value}
 use Rattle.record_core.specs.declared.values.Value.TheVariants.{Null, Whole, Real8, Text, Blob}
 use Rattle.page_walk.specs.declared.outcomes.TakenCell.{TakenCell}
 use Rattle.page_walk.specs.declared.outcomes.CellOutcome.{CellOutcome}
-use Rattle.page_walk.specs.Cells.{Row, Outcome, Read, Lost, outcome_of, row_of, chains_of}
+use Rattle.page_walk.specs.Cells.{Row, Outcome, Read, Unread, outcome_of, row_of, chains_of}
 
 -- bytes that a value holds
 abbrev pub value_len : Value → ℕ
@@ -30,7 +30,7 @@ pub record IsSmallRow (usable pages page : ℕ) (row : Row) : Type 0 where
 
 abbrev pub IsSmall : ℕ → ℕ → ℕ → Outcome → Type 0
 IsSmall usable pages page (Read row) = IsSmallRow usable pages page row
-IsSmall usable pages page (Lost cell cause chain) = ArePages pages chain
+IsSmall usable pages page (Unread u) = ArePages pages u.chain
 
 -- `new` is `old` and then a few small outcomes of cells of the page
 pub record Adds (usable pages page : ℕ) (old new : List CellOutcome) : Type 0 where

@@ -20,12 +20,14 @@ abbrev pub IsRest : File → ℕ → Option ℕ → List ℕ → List ℕ → Ty
 IsRest f need None chain rest = (chain ≡ []) × (rest ≡ [])
 IsRest f need (Some q) chain rest = IsChain f q need chain rest
 
--- The row stands in the file. The cell of its page and number is accepted and has a payload; the payload
--- is its local bytes and then those of its chain, and is a record of these values; the rowid is the cell's.
+-- The row stands in the file. Its page is one of 1 to n; the cell of this page and number is accepted and has a
+-- payload; the payload is its local bytes and then those of its chain, and is a record of these values; the rowid is
+-- the cell's.
 pub record Evidence (f : File) (row : Row) : Type 0 where
   pub shape : PageShape
   pub view : CellView
   pub rest : List ℕ
+  pub of_file : is_page f.pages row.page ≡ true
   pub has_shape : shape_on f row.page ≡ Some shape
   pub has_record : has_payload shape.kind shape.leaf ≡ true
   pub accepted : slice_get (verdicts_on f row.page) row.cell ≡ Some (Kept view)
@@ -38,7 +40,7 @@ pub record Evidence (f : File) (row : Row) : Type 0 where
 abbrev pub AreOnce : ℕ → List ℕ → Type 0
 AreOnce pages unused = (q : ℕ) → count q unused ≤ (if is_page pages q then 1 else 0)
 
--- each readable cell of a page has its evidence
+-- each readable cell of a page of the file has its evidence
 abbrev pub ReadableHaveEvidence : Type 0
-ReadableHaveEvidence = (f : File) (p : ℕ) (unused : List ℕ) → AreOnce f.pages unused
+ReadableHaveEvidence = (f : File) (p : ℕ) (unused : List ℕ) → is_page f.pages p ≡ true → AreOnce f.pages unused
     → AllByRecursion (Evidence f) (rows_of (outcomes_on f p unused))

@@ -3,7 +3,7 @@ use Rattle.std.proofs.Common.{◌≡◌, ◌≤◌, ◌∙◌, ℕ, ◌+◌, min
 use Rattle.std.proofs.Math.Seq.{take-append_seam, take-append-add}
 use Rattle.std.proofs.lemmas.List.{append-nil, take-append-le, take_min}
 use Rattle.page_access.specs.Outside.{Gains, GainsPrefix, Writes, WritesOf}
-use Rattle.page_access.proofs.Keeps.{Rose-longer}
+use Rattle.page_access.proofs.Keeps.{Rose-longer, not_failed}
 
 -- a front of `all` is written, and `rest` is still to come
 pub record WroteFront (old now : Option (List ℕ)) (before count : ℕ) (rest all : List ℕ) : Type 0 where
@@ -106,11 +106,6 @@ pub writes_same : {T E : Type 0} {r : Result T E} {o p : Option (List ℕ)} {f g
 writes_same {r = r} {o} {p} {f} {g} e w = subst (λ t. Writes o p f g t r) e w
 
 -- the tools where one of several errors is the sink's
-
--- an answer without an error leaves the count
-pub not_failed : {T E : Type 0} {x : T} {fault : E} {P : Type 0} → (IsErrOf {T = T} (Ok x) fault ⊎ P) → P
-not_failed (inl of) = absurd cc
-not_failed (inr same) = same
 
 pub front_step_of : {T E : Type 0} {x : T} {fault : E} {o p q : Option (List ℕ)} {f g h : ℕ} {piece all : List ℕ} (rest : List ℕ) →
     WroteFront o p f g (piece ++ rest) all → WritesOf {T = T} fault p q g h piece (Ok x) → WroteFront o q f h rest all

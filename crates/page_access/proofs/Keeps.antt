@@ -1,5 +1,5 @@
 -- What one call after another keeps, and the counts over both.
-use Rattle.std.proofs.Common.{◌≡◌, ◌≤◌, ◌⊎◌, inl, inr, ◌∙◌, ℕ, List, Option, Bool, false, refl, arith}
+use Rattle.std.proofs.Common.{◌≡◌, ◌≤◌, ◌⊎◌, inl, inr, ◌∙◌, ℕ, List, Option, Bool, false, Ok, IsErrOf, refl, arith}
 use Rattle.page_access.specs.Outside.{Rose, KeepsSource, KeepsSink}
 
 -- a count that rose, and did not fall before or after
@@ -17,6 +17,30 @@ KeepsSource-trans first next = record {
   faults_later = omega (arith, first.faults_later, next.faults_later);
   reads_later = omega (arith, first.reads_later, next.reads_later);
 }
+
+-- what calls above a source keep as long as none of its calls failed: the count of faults too
+pub record Passed {S : Type 0} (bytes attached : S → Option (List ℕ)) (faults reads : S → ℕ) (old new : S) : Type 0 where
+  pub told : bytes new ≡ bytes old
+  pub name : attached new ≡ attached old
+  pub steady : faults new ≡ faults old
+  pub reads_later : reads old ≤ reads new
+
+pub passed_none : {S : Type 0} (bytes attached : S → Option (List ℕ)) (faults reads : S → ℕ) (src : S) → Passed bytes attached faults reads src src
+passed_none bytes attached faults reads src = record { told = refl; name = refl; steady = refl; reads_later = omega arith }
+
+pub passed_more : {S : Type 0} {bytes attached : S → Option (List ℕ)} {faults reads : S → ℕ} {a b c : S} →
+    Passed bytes attached faults reads a b → KeepsSource bytes attached faults reads b c → faults c ≡ faults b → Passed bytes attached faults reads a c
+passed_more first next steady = record {
+  told = next.told ∙ first.told;
+  name = next.name ∙ first.name;
+  steady = steady ∙ first.steady;
+  reads_later = omega (arith, first.reads_later, next.reads_later);
+}
+
+-- an answer without an error leaves the count
+pub not_failed : {T E : Type 0} {x : T} {fault : E} {P : Type 0} → (IsErrOf {T = T} (Ok x) fault ⊎ P) → P
+not_failed (inl of) = absurd cc
+not_failed (inr same) = same
 
 pub KeepsSink-refl : {R : Type 0} (created : R → Option (List ℕ)) (finished : R → Bool) (faults : R → ℕ) (out : R) → KeepsSink created finished faults out out
 KeepsSink-refl created finished faults out = record { name = refl; unfinished = inr refl; faults_later = omega arith }

@@ -1,0 +1,4 @@
+pub mod Shape
+pub mod Seen
+pub mod Keys
+pub mod Entries

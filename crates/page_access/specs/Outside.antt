@@ -2,7 +2,7 @@
 -- A source or a sink may tell its bytes: `Some` of them, or `None`. It counts its faults.
 use Rattle.std.specs.Prelude.{◌≡◌, ◌⊎◌, ℕ, ◌+◌, ◌-◌, ◌^◌, ◌≤◌, min, List, ◌++◌, length, take, drop, Option, Some, None, Bool, false, Result, OnOk, OnErr, IsErrOf}
 
--- a count rose from one moment to another, or stands at its last value
+-- a count rose from one moment to another, or stands at 2^64 - 1, above which it does not go
 abbrev pub Rose : ℕ → ℕ → Type 0
 Rose before now = min (before + 1) (2 ^ 64 - 1) ≤ now
 

@@ -16,7 +16,7 @@ use Rattle.record_core.proofs.Found.{record_found}
 use Rattle.cell_reader.specs.declared.shapes.PageShape.{PageShape}
 use Rattle.cell_reader.specs.declared.cells.CellView.{CellView}
 use Rattle.cell_reader.specs.Inside.{has_payload}
-use Rattle.cell_reader.specs.Screen.{Verdict, Kept, Faulty, Overlaps, verdicts}
+use Rattle.cell_reader.specs.Screen.{Verdict, Accepts, Faulty, Overlaps, verdicts}
 use Rattle.overflow_chain.specs.declared.ChainEnd.{ChainEnd}
 use Rattle.overflow_chain.specs.declared.ChainEnd.TheVariants.{Whole, Broken}
 use Rattle.overflow_chain.proofs.Longest.{whole_turn_is_chain}
@@ -57,7 +57,7 @@ record Reached (f : File) (p : ℕ) (shape : PageShape) (i : ℕ) (v : CellView)
   of_file : is_page f.pages p ≡ true
   has_shape : shape_on f p ≡ Some shape
   has_record : has_payload shape.kind shape.leaf ≡ true
-  accepted : slice_get (verdicts_on f p) i ≡ Some (Kept v)
+  accepted : slice_get (verdicts_on f p) i ≡ Some (Accepts v)
 
 entry_evidence : (f : File) (p : ℕ) (shape : PageShape) (i : ℕ) (v : CellView) (unused : List ℕ) → AreOnce f.pages unused
     → Reached f p shape i v → AllByRecursion (Evidence f) (rows_of (entry_at f (page_at f p) p i v unused ∷ []))
@@ -96,9 +96,9 @@ one_evidence : (f : File) (p : ℕ) (shape : PageShape) (payload : Bool) (i : �
     → is_page f.pages p ≡ true → AreOnce f.pages unused → shape_on f p ≡ Some shape → has_payload shape.kind shape.leaf ≡ payload
     → slice_get (verdicts_on f p) i ≡ Some v
     → AllByRecursion (Evidence f) (rows_of (outcome_at f (page_at f p) p payload i (screened_as v) unused))
-one_evidence f p shape true i (Kept w) unused page once has pay got =
+one_evidence f p shape true i (Accepts w) unused page once has pay got =
     entry_evidence f p shape i w unused once (record { of_file = page; has_shape = has; has_record = pay; accepted = got })
-one_evidence f p shape false i (Kept w) unused page once has pay got = tt
+one_evidence f p shape false i (Accepts w) unused page once has pay got = tt
 one_evidence f p shape payload i (Faulty fault) unused page once has pay got = tt
 one_evidence f p shape payload i Overlaps unused page once has pay got = tt
 

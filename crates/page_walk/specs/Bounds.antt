@@ -3,19 +3,10 @@ use Rattle.std.specs.Prelude.{◌≡◌, ◌≤◌, ℕ, ◌*◌, ◌/◌, List,
 use Rattle.std.specs.List.{AllByRecursion}
 use Rattle.page_lists.specs.Table.{Table, all_moved}
 use Rattle.overflow_chain.specs.declared.TheConstants.{OVERFLOW_LIST}
-use Rattle.record_core.specs.declared.values.Value.{Value}
-use Rattle.record_core.specs.declared.values.Value.TheVariants.{Null, Whole, Real8, Text, Blob}
+use Rattle.record_core.specs.Record.{value_len}
 use Rattle.page_walk.specs.declared.outcomes.TakenCell.{TakenCell}
 use Rattle.page_walk.specs.declared.outcomes.CellOutcome.{CellOutcome}
 use Rattle.page_walk.specs.Cells.{Row, Outcome, Read, Unread, outcome_of, row_of, chains_of}
-
--- bytes that a value holds
-abbrev pub value_len : Value → ℕ
-value_len Null = 0
-value_len (Whole number) = 0
-value_len (Real8 bytes) = length bytes
-value_len (Text bytes) = length bytes
-value_len (Blob bytes) = length bytes
 
 -- each page is one of 1 to `pages`
 abbrev pub ArePages : ℕ → List ℕ → Type 0

@@ -8,7 +8,7 @@ use Rattle.record_core.specs.Spelling.{IsRecord}
 use Rattle.cell_reader.specs.declared.shapes.PageShape.{PageShape}
 use Rattle.cell_reader.specs.declared.cells.CellView.{CellView}
 use Rattle.cell_reader.specs.Inside.{has_payload}
-use Rattle.cell_reader.specs.Screen.{Kept}
+use Rattle.cell_reader.specs.Screen.{Accepts}
 use Rattle.overflow_chain.specs.Chain.{IsChain}
 use Rattle.page_walk.specs.Cells.{Row, missing, outcomes_on}
 use Rattle.page_walk.specs.Page.{shape_on, verdicts_on}
@@ -30,7 +30,7 @@ pub record Evidence (f : File) (row : Row) : Type 0 where
   pub of_file : is_page f.pages row.page ≡ true
   pub has_shape : shape_on f row.page ≡ Some shape
   pub has_record : has_payload shape.kind shape.leaf ≡ true
-  pub accepted : slice_get (verdicts_on f row.page) row.cell ≡ Some (Kept view)
+  pub accepted : slice_get (verdicts_on f row.page) row.cell ≡ Some (Accepts view)
   pub chain : IsRest f (missing view) view.overflow row.chain rest
   pub values : IsRecord (slice_range (page_at f row.page) view.local_start view.local_end ++ rest) row.fields
   pub few : length row.fields ≤ 1996

@@ -1,1 +1,5 @@
 pub mod Words
+pub mod Sorts
+pub mod Roles
+pub mod Classes
+pub mod Grammar

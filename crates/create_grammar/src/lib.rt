@@ -1,6 +1,23 @@
 //! The words of a CREATE TABLE text, and their roles by its grammar (docs/CREATE_TABLE.md).
 #![tactic(auto)]
 
+ghost use Rattle.std.specs.Prelude.{◌≡◌, [], true};
+ghost use Rattle.create_grammar.specs.Grammar.{table};
+ghost use Rattle.word_grammar.specs.Reading.{is_plain};
+
+mod classes;
+mod roles;
+mod sorts;
 mod spans;
 
+pub use roles::Role;
+pub use sorts::{Sort, code, same_name, sort_of, word_bytes};
 pub use spans::{Word, WordKind, words};
+
+pub fn plain()
+    ensures { is_plain table [] ≡ true }
+{}
+
+fn is_of(sort: Sort, class: classes::Class) -> bool {
+    classes::is_of(sort, class)
+}

@@ -3,3 +3,4 @@ pub mod Sorts
 pub mod Roles
 pub mod Classes
 pub mod Grammar
+pub mod Pass

@@ -6,7 +6,7 @@ ghost use Rattle.create_grammar.specs.Sorts.{code};
 ghost use Rattle.create_grammar.specs.declared.classes.Class.TheVariants as class;
 ghost use Rattle.word_grammar.specs.Form.{has};
 
-use crate::sorts::Sort;
+use crate::sorts::{Sort, code};
 
 /// The words that may stand at a place.
 #[derive(Clone, Copy, Debug, PartialEq, Eq)]
@@ -84,7 +84,7 @@ pub fn is_of(sort: Sort, class: Class) -> bool
 fn is_one(sort: Sort, other: Sort) -> bool
     ensures { result ≡ has (class_of (class.One other)) (code sort) }
 {
-    sort as u8 == other as u8
+    code(sort) == code(other)
 }
 
 fn is_name(sort: Sort) -> bool

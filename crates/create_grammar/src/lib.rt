@@ -6,6 +6,7 @@ ghost use Rattle.create_grammar.specs.Grammar.{table};
 ghost use Rattle.word_grammar.specs.Reading.{is_plain};
 
 mod classes;
+mod pass;
 mod roles;
 mod sorts;
 mod spans;
@@ -14,10 +15,7 @@ pub use roles::Role;
 pub use sorts::{Sort, code, same_name, sort_of, word_bytes};
 pub use spans::{Word, WordKind, words};
 
-pub fn plain()
+/// One word of sight is enough for the grammar.
+pub fn grammar_is_plain()
     ensures { is_plain table [] ≡ true }
 {}
-
-fn is_of(sort: Sort, class: classes::Class) -> bool {
-    classes::is_of(sort, class)
-}

@@ -9,7 +9,7 @@ use Rattle.std.proofs.Math.ListN.{get_or-append}
 use Rattle.cell_reader.specs.declared.cells.CellView.{CellView}
 use Rattle.cell_reader.specs.declared.cells.CellFault.{CellFault}
 use Rattle.cell_reader.specs.Cover.{is_free, with_range, covers, IsRange, Covers, marked_on, marks_with, marked_from}
-use Rattle.cell_reader.specs.Screen.{Verdict, Kept, Faulty, Overlaps, are_apart, verdict_on, held_with, screened_from}
+use Rattle.cell_reader.specs.Screen.{Verdict, Accepts, Faulty, Overlaps, are_apart, verdict_on, held_with, screened_from}
 
 either : (b : Bool) → (b ≡ true) ⊎ (b ≡ false)
 either true = inl refl
@@ -177,7 +177,7 @@ same_verdict : (usable : ℕ) (marks : List Bool) (held : List CellView) (r : Re
     → IfOk r (IsRange usable) → Covers usable marks held → marked_on r marks ≡ verdict_on r held
 same_verdict usable marks held (Err fault) range c = refl
 same_verdict usable marks held (Ok v) range c =
-    ap (λ b. if b then Kept v else Overlaps) (free_apart usable marks held v c range)
+    ap (λ b. if b then Accepts v else Overlaps) (free_apart usable marks held v c range)
 
 next_covers : (usable : ℕ) (marks : List Bool) (held : List CellView) (r : Result CellView CellFault)
     → IfOk r (IsRange usable) → Covers usable marks held
@@ -185,8 +185,8 @@ next_covers : (usable : ℕ) (marks : List Bool) (held : List CellView) (r : Res
 next_covers usable marks held (Err fault) range c = c
 next_covers usable marks held (Ok v) range c = go (list_all (are_apart v) held)
   where
-    go : (b : Bool) → Covers usable (marks_with (if b then Kept v else Overlaps) marks)
-        (held_with (if b then Kept v else Overlaps) held)
+    go : (b : Bool) → Covers usable (marks_with (if b then Accepts v else Overlaps) marks)
+        (held_with (if b then Accepts v else Overlaps) held)
     go true = covers_more usable marks held v c range
     go false = c
 

@@ -3,7 +3,7 @@ use Rattle.std.specs.Prelude.{◌≡◌, ◌<◌, ◌≤◌, ℕ, zero, suc, ◌
 use Rattle.std.specs.List.{AllByRecursion, list_all, list_any, slice_range}
 use Rattle.cell_reader.specs.declared.cells.CellView.{CellView}
 use Rattle.cell_reader.specs.declared.cells.CellFault.{CellFault}
-use Rattle.cell_reader.specs.Screen.{Verdict, Kept, Faulty, Overlaps}
+use Rattle.cell_reader.specs.Screen.{Verdict, Accepts, Faulty, Overlaps}
 
 -- no byte from `start` to before `end` is marked
 abbrev pub is_free : List Bool → ℕ → ℕ → Bool
@@ -30,11 +30,11 @@ pub record Covers (usable : ℕ) (marks : List Bool) (held : List CellView) : Ty
 -- the verdict on a cell by the marks of the accepted cells before it
 abbrev pub marked_on : Result CellView CellFault → List Bool → Verdict
 marked_on (Err fault) marks = Faulty fault
-marked_on (Ok v) marks = if is_free marks v.start v.end then Kept v else Overlaps
+marked_on (Ok v) marks = if is_free marks v.start v.end then Accepts v else Overlaps
 
 -- the marks behind a cell with this verdict
 abbrev pub marks_with : Verdict → List Bool → List Bool
-marks_with (Kept v) marks = with_range marks v.start v.end
+marks_with (Accepts v) marks = with_range marks v.start v.end
 marks_with (Faulty fault) marks = marks
 marks_with Overlaps marks = marks
 

@@ -25,13 +25,13 @@ told_step {T = T} x fault (Some bytes) told' old now new f g h rest piece next a
 
 -- listing a page failed
 pub told_out : (T : Type 0) {E T' E' : Type 0} (e inner : E) (r : Result T' E') (fault : E') (told told' old now new : Option (List ℕ)) (f g h : ℕ) (rest piece next all : List ℕ → List ℕ) →
-    IsErr r → (IsErrOf r fault → e ≡ inner) → told' ≡ told → ((bytes : List ℕ) → rest bytes ≡ piece bytes ++ next bytes) → ToldFront told old now f g rest all
+    IsErr r → (IsErrOf r fault → e ≡ inner) → (e ≡ inner → IsErrOf r fault) → told' ≡ told → ((bytes : List ℕ) → rest bytes ≡ piece bytes ++ next bytes) → ToldFront told old now f g rest all
     → IfSome told' (λ bytes. WritesOf {T = T} inner now new g h (piece bytes) (Err e)) → IfSome told (λ bytes. WritesOf fault old new f h (all bytes) r)
-told_out T e inner r fault None told' old now new f g h rest piece next all is from same parts w written = tt
-told_out T e inner r fault (Some bytes) told' old now new f g h rest piece next all is from same parts w written =
+told_out T e inner r fault None told' old now new f g h rest piece next all is from back same parts w written = tt
+told_out T e inner r fault (Some bytes) told' old now new f g h rest piece next all is from back same parts w written =
     let one : WritesOf {T = T} inner now new g h (piece bytes) (Err e) =
     subst (λ o. IfSome o (λ b. WritesOf {T = T} inner now new g h (piece b) (Err e))) same written in
-    front_out_from fault (next bytes) is from (front_as (parts bytes) w) one
+    front_out_from fault (next bytes) is from back (front_as (parts bytes) w) one
 
 -- all pages are listed
 pub told_end : {T E : Type 0} (x : T) (fault : E) (told old now : Option (List ℕ)) (f g : ℕ) (rest all : List ℕ → List ℕ) →
@@ -53,6 +53,11 @@ pages_none text n i p le = let e : n - i ≡ 0 = omega arith in ap (λ m. pages_
 pub passed_on : {T E : Type 0} (r : Result T E) (e fault : E) → IsErrAnd r (λ x. x ≡ e) → IsErrOf r fault → e ≡ fault
 passed_on (Ok x) e fault h is = absurd h
 passed_on (Err x) e fault h is = let same : x ≡ e = h in cc
+
+-- and one that is passed on is the answer
+pub passed_back : {T E : Type 0} (r : Result T E) (e fault : E) → IsErrAnd r (λ x. x ≡ e) → e ≡ fault → IsErrOf r fault
+passed_back (Ok x) e fault h is = absurd h
+passed_back (Err x) e fault h is = let same : x ≡ e = h in cc
 
 -- the rest in other words: by the unused pages that a page left
 pub told_with : (told told' old now : Option (List ℕ)) (f g : ℕ) (text : List ℕ → List ℕ → List ℕ) (wanted : List ℕ → List ℕ) (left : List ℕ) (all : List ℕ → List ℕ)

@@ -3,7 +3,7 @@ use Rattle.std.specs.Prelude.{ℕ, ℤ, ◌+◌, List, [], ◌∷◌, ◌++◌, 
 use Rattle.std.specs.Fmt.{signed_decimal}
 use Rattle.hex.specs.Hex.{encode_lower}
 use Rattle.record_core.specs.declared.values.Value.{Value}
-use Rattle.page_walk.specs.Cells.{Outcome, Read, Lost}
+use Rattle.page_walk.specs.Cells.{Outcome, Read, Unread}
 use Rattle.page_walk.specs.declared.causes.CellCause.{CellCause}
 use Rattle.page_walk.specs.declared.causes.CellCause.TheVariants.{Pointer, Cut, Length, Overlap, Chain, BadRecord}
 use Rattle.record_core.specs.declared.values.Value.TheVariants.{Null, Whole, Real8, Text, Blob}
@@ -75,7 +75,7 @@ cause_text BadRecord = codes "record"
 -- the lines of a cell
 abbrev pub outcome_text : ℕ → Outcome → List ℕ
 outcome_text page (Read row) = row_text page row.cell row.rowid row.fields
-outcome_text page (Lost cell cause chain) = unread_line page cell (cause_text cause)
+outcome_text page (Unread u) = unread_line page u.cell (cause_text u.cause)
 
 -- the lines of cells, in order
 abbrev pub outcomes_text : ℕ → List Outcome → List ℕ

@@ -29,7 +29,7 @@ pub fn list_data<S: Source, R: Sink>(
     ensures source { HasCauseOf ListFault.Source (S.faults src.old) (S.faults src.new) result }
     ensures sink { HasCauseOf ListFault.Sink (R.faults to.old) (R.faults to.new) result }
     ensures kept { KeepsSource S.bytes S.attached S.faults S.reads src.old src.new }
-    ensures kept_sink { KeepsSink R.created R.faults to.old to.new }
+    ensures kept_sink { KeepsSink R.created R.finished R.faults to.old to.new }
 {
     let mut table = PageTable::new(alloc, geo.pages, LISTS)?;
     for done in 0..geo.pages {
@@ -61,7 +61,7 @@ fn list_cells<S: Source, R: Sink>(
     ensures source { HasCauseOf ListFault.Source (S.faults src.old) (S.faults src.new) result }
     ensures sink { HasCauseOf ListFault.Sink (R.faults to.old) (R.faults to.new) result }
     ensures kept { KeepsSource S.bytes S.attached S.faults S.reads src.old src.new }
-    ensures kept_sink { KeepsSink R.created R.faults to.old to.new }
+    ensures kept_sink { KeepsSink R.created R.finished R.faults to.old to.new }
 {
     let mut cells = Vec::new(alloc);
     cells_of(alloc, src, geo, table, page, &mut cells)?;
@@ -73,7 +73,7 @@ fn list_cells<S: Source, R: Sink>(
 fn put_cells<R: Sink>(to: &mut R, page: u32, cells: &[CellOutcome]) -> Result<(), Failed>
     ensures writes { Writes (R.bytes to.old) (R.bytes to.new) (R.faults to.old) (R.faults to.new)
         (outcomes_text page (map outcome_of cells.now)) result }
-    ensures kept { KeepsSink R.created R.faults to.old to.new }
+    ensures kept { KeepsSink R.created R.finished R.faults to.old to.new }
 {
     for cell in cells {
         put_cell(to, page, cell)?;
@@ -85,7 +85,7 @@ fn put_cells<R: Sink>(to: &mut R, page: u32, cells: &[CellOutcome]) -> Result<()
 fn put_cell<R: Sink>(to: &mut R, page: u32, cell: &CellOutcome) -> Result<(), Failed>
     ensures writes { Writes (R.bytes to.old) (R.bytes to.new) (R.faults to.old) (R.faults to.new)
         (outcome_text page (outcome_of cell.now)) result }
-    ensures kept { KeepsSink R.created R.faults to.old to.new }
+    ensures kept { KeepsSink R.created R.finished R.faults to.old to.new }
 {
     match cell {
         CellOutcome::Taken(taken) => put_row(

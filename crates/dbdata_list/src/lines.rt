@@ -25,7 +25,7 @@ pub(crate) fn put_row<R: Sink>(
 ) -> Result<(), Failed>
     ensures writes { Writes (R.bytes to.old) (R.bytes to.new) (R.faults to.old) (R.faults to.new)
         (row_text page cell rowid values.now) result }
-    ensures kept { KeepsSink R.created R.faults to.old to.new }
+    ensures kept { KeepsSink R.created R.finished R.faults to.old to.new }
 {
     put_rowid(to, page, cell, rowid)?;
     put_fields(to, page, cell, values)
@@ -35,7 +35,7 @@ pub(crate) fn put_row<R: Sink>(
 fn put_rowid<R: Sink>(to: &mut R, page: u32, cell: u32, rowid: Option<i64>) -> Result<(), Failed>
     ensures writes { Writes (R.bytes to.old) (R.bytes to.new) (R.faults to.old) (R.faults to.new)
         (rowid_text page cell rowid) result }
-    ensures kept { KeepsSink R.created R.faults to.old to.new }
+    ensures kept { KeepsSink R.created R.finished R.faults to.old to.new }
 {
     match rowid {
         Some(rowid) => put_whole(to, page, cell, b"-1", rowid),
@@ -47,7 +47,7 @@ fn put_rowid<R: Sink>(to: &mut R, page: u32, cell: u32, rowid: Option<i64>) -> R
 fn put_fields<R: Sink>(to: &mut R, page: u32, cell: u32, values: &[Value]) -> Result<(), Failed>
     ensures writes { Writes (R.bytes to.old) (R.bytes to.new) (R.faults to.old) (R.faults to.new)
         (fields_text page cell 0 values.now) result }
-    ensures kept { KeepsSink R.created R.faults to.old to.new }
+    ensures kept { KeepsSink R.created R.finished R.faults to.old to.new }
 {
     for (field, value) in values.iter().enumerate() {
         put_numbered(to, page, cell, field, value)?;
@@ -65,7 +65,7 @@ fn put_numbered<R: Sink>(
 ) -> Result<(), Failed>
     ensures writes { Writes (R.bytes to.old) (R.bytes to.new) (R.faults to.old) (R.faults to.new)
         (field_line page cell (decimal field) value.now) result }
-    ensures kept { KeepsSink R.created R.faults to.old to.new }
+    ensures kept { KeepsSink R.created R.finished R.faults to.old to.new }
 {
     put_field(
         to,
@@ -87,7 +87,7 @@ pub(crate) fn put_unread<R: Sink>(
     requires { length cause.now ≤ 32 }
     ensures writes { Writes (R.bytes to.old) (R.bytes to.new) (R.faults to.old) (R.faults to.new)
         (unread_line page cell cause.now) result }
-    ensures kept { KeepsSink R.created R.faults to.old to.new }
+    ensures kept { KeepsSink R.created R.finished R.faults to.old to.new }
 {
     let mut line = place(u64::from(page), u64::from(cell));
     add(&mut line, b"unread ");
@@ -101,7 +101,7 @@ pub(crate) fn put_unread<R: Sink>(
 pub(crate) fn put_pointer<R: Sink>(to: &mut R, page: u32, child: u32) -> Result<(), Failed>
     ensures writes { Writes (R.bytes to.old) (R.bytes to.new) (R.faults to.old) (R.faults to.new)
         (pointer_line page child) result }
-    ensures kept { KeepsSink R.created R.faults to.old to.new }
+    ensures kept { KeepsSink R.created R.finished R.faults to.old to.new }
 {
     let mut line = Line::new();
     add(&mut line, Buffer::new().format(page).as_bytes());
@@ -123,7 +123,7 @@ fn put_field<R: Sink>(
     requires { length field.now ≤ 20 }
     ensures writes { Writes (R.bytes to.old) (R.bytes to.new) (R.faults to.old) (R.faults to.new)
         (field_line page cell field.now value.now) result }
-    ensures kept { KeepsSink R.created R.faults to.old to.new }
+    ensures kept { KeepsSink R.created R.finished R.faults to.old to.new }
 {
     match value {
         Value::Null => put_null(to, page, cell, field),
@@ -140,7 +140,7 @@ fn put_null<R: Sink>(to: &mut R, page: u32, cell: u32, field: &[u8]) -> Result<(
     requires { length field.now ≤ 20 }
     ensures writes { Writes (R.bytes to.old) (R.bytes to.new) (R.faults to.old) (R.faults to.new)
         (field_line page cell field.now Null) result }
-    ensures kept { KeepsSink R.created R.faults to.old to.new }
+    ensures kept { KeepsSink R.created R.finished R.faults to.old to.new }
 {
     let mut line = head(page, cell, field);
     add(&mut line, b"null\n");
@@ -159,7 +159,7 @@ fn put_whole<R: Sink>(
     requires { length field.now ≤ 20 }
     ensures writes { Writes (R.bytes to.old) (R.bytes to.new) (R.faults to.old) (R.faults to.new)
         (field_line page cell field.now (Whole number)) result }
-    ensures kept { KeepsSink R.created R.faults to.old to.new }
+    ensures kept { KeepsSink R.created R.finished R.faults to.old to.new }
 {
     put_word(
         to,
@@ -185,7 +185,7 @@ fn put_word<R: Sink>(
     requires word { length name.now + length word.now ≤ 64 }
     ensures writes { Writes (R.bytes to.old) (R.bytes to.new) (R.faults to.old) (R.faults to.new)
         (word_line page cell field.now name.now word.now) result }
-    ensures kept { KeepsSink R.created R.faults to.old to.new }
+    ensures kept { KeepsSink R.created R.finished R.faults to.old to.new }
 {
     let mut line = head(page, cell, field);
     add(&mut line, name);
@@ -207,7 +207,7 @@ fn put_bytes<R: Sink>(
     requires name { length name.now ≤ 8 }
     ensures writes { Writes (R.bytes to.old) (R.bytes to.new) (R.faults to.old) (R.faults to.new)
         (word_line page cell field.now name.now (encode_lower bytes.now)) result }
-    ensures kept { KeepsSink R.created R.faults to.old to.new }
+    ensures kept { KeepsSink R.created R.finished R.faults to.old to.new }
 {
     put_name(to, page, cell, field, name)?;
     put_hex(to, bytes)?;
@@ -226,7 +226,7 @@ fn put_name<R: Sink>(
     requires name { length name.now ≤ 8 }
     ensures writes { Writes (R.bytes to.old) (R.bytes to.new) (R.faults to.old) (R.faults to.new)
         (field_text page cell field.now ++ name.now) result }
-    ensures kept { KeepsSink R.created R.faults to.old to.new }
+    ensures kept { KeepsSink R.created R.finished R.faults to.old to.new }
 {
     let mut line = head(page, cell, field);
     add(&mut line, name);
@@ -238,7 +238,7 @@ fn put_name<R: Sink>(
 pub fn put_hex<R: Sink>(to: &mut R, bytes: &[u8]) -> Result<(), Failed>
     ensures writes { Writes (R.bytes to.old) (R.bytes to.new) (R.faults to.old) (R.faults to.new)
         (encode_lower bytes.now) result }
-    ensures kept { KeepsSink R.created R.faults to.old to.new }
+    ensures kept { KeepsSink R.created R.finished R.faults to.old to.new }
 {
     let mut rest = bytes;
     while rest.len() > 64 {
@@ -254,7 +254,7 @@ fn put_digits<R: Sink>(to: &mut R, bytes: &[u8]) -> Result<(), Failed>
     requires { length bytes.now ≤ 64 }
     ensures writes { Writes (R.bytes to.old) (R.bytes to.new) (R.faults to.old) (R.faults to.new)
         (encode_lower bytes.now) result }
-    ensures kept { KeepsSink R.created R.faults to.old to.new }
+    ensures kept { KeepsSink R.created R.finished R.faults to.old to.new }
 {
     let mut digits = [0; 128];
     let room = &mut digits[..2 * bytes.len()];

@@ -25,7 +25,7 @@ pub fn list_pointers<S: Source, R: Sink>(
     ensures source { HasCauseOf ListFault.Source (S.faults src.old) (S.faults src.new) result }
     ensures sink { HasCauseOf ListFault.Sink (R.faults to.old) (R.faults to.new) result }
     ensures kept { KeepsSource S.bytes S.attached S.faults S.reads src.old src.new }
-    ensures kept_sink { KeepsSink R.created R.faults to.old to.new }
+    ensures kept_sink { KeepsSink R.created R.finished R.faults to.old to.new }
 {
     for done in 0..geo.pages {
         list_page(alloc, src, geo, done + 1, to)?;
@@ -49,7 +49,7 @@ fn list_page<S: Source, R: Sink>(
     ensures source { HasCauseOf ListFault.Source (S.faults src.old) (S.faults src.new) result }
     ensures sink { HasCauseOf ListFault.Sink (R.faults to.old) (R.faults to.new) result }
     ensures kept { KeepsSource S.bytes S.attached S.faults S.reads src.old src.new }
-    ensures kept_sink { KeepsSink R.created R.faults to.old to.new }
+    ensures kept_sink { KeepsSink R.created R.finished R.faults to.old to.new }
 {
     let mut children = Vec::new(alloc);
     pointers(alloc, src, geo, page, &mut children)?;
@@ -61,7 +61,7 @@ fn list_page<S: Source, R: Sink>(
 fn put_pointers<R: Sink>(to: &mut R, page: u32, children: &[u32]) -> Result<(), Failed>
     ensures writes { Writes (R.bytes to.old) (R.bytes to.new) (R.faults to.old) (R.faults to.new)
         (pointer_lines page children.now) result }
-    ensures kept { KeepsSink R.created R.faults to.old to.new }
+    ensures kept { KeepsSink R.created R.finished R.faults to.old to.new }
 {
     for child in children {
         put_pointer(to, page, *child)?;

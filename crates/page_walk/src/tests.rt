@@ -114,6 +114,7 @@ fn a_chain_that_names_itself_gives_no_values(rt: HostRuntime) -> Result<(), Fail
                 outcome,
                 CellOutcome::Unread {
                     cell: 0,
+                    rowid: Some(1),
                     cause: CellCause::Chain,
                     ..
                 }

@@ -3,11 +3,12 @@ use Rattle.std.proofs.Common.{◌≡◌, ◌≤◌, ℕ, ◌+◌, if◌then◌el
 use Rattle.std.specs.Prelude.{option_and_then, sum_by}
 use Rattle.std.specs.List.{AllByRecursion, cons_option}
 use Rattle.std.proofs.lemmas.List.Sums.{sum_by-cons}
+use Rattle.record_core.specs.Record.{value_len}
 use Rattle.record_core.specs.declared.values.Value.{Value}
 use Rattle.record_core.specs.declared.values.Value.TheVariants.{Null, Whole, Real8, Text, Blob}
 use Rattle.page_walk.specs.declared.outcomes.Place.{Place}
 use Rattle.page_walk.specs.declared.outcomes.TakenCell.{TakenCell}
-use Rattle.page_walk.specs.Bounds.{IsSmallRow, value_len}
+use Rattle.page_walk.specs.Bounds.{IsSmallRow}
 use Rattle.page_walk.specs.Cells.{row_of}
 use Rattle.raw_schema.specs.declared.rows.SchemaRow.{SchemaRow}
 use Rattle.raw_schema.specs.Bounds.{IsSmallBad, IsSmallEntry, sql_len}

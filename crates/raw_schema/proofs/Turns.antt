@@ -9,7 +9,7 @@ use Rattle.page_access.specs.declared.geometry.Geometry.{Geometry}
 use Rattle.page_access.specs.Files.{IsWhole, file_of}
 use Rattle.page_access.specs.Outside.{KeepsSource}
 use Rattle.page_access.specs.Pages.{File}
-use Rattle.page_access.proofs.Keeps.{KeepsSource-refl, KeepsSource-trans}
+use Rattle.page_access.proofs.Keeps.{Passed, passed_more, passed_none}
 use Rattle.page_lists.specs.Table.{Table, Moves, all_moved, unused}
 use Rattle.page_lists.proofs.Uses.{unused-all_moved, all_moved-append, Moves-none, Moves-append}
 use Rattle.overflow_chain.specs.declared.TheConstants.{OVERFLOW_LIST}
@@ -108,7 +108,7 @@ found_told (Some all) geo pages old new new' cells none read notes notes' unread
 -- what a loop over the pages of a tree keeps
 pub record Going {S : Type 0} (told attached : S → Option (List ℕ)) (faults reads : S → ℕ) (geo : Geometry) (pages : List ℕ)
     (src0 src : S) (old new : Table) (rows : List SchemaRow) (bad : List TakenCell) (notes : List (ℕ × PageNotes)) (i : ℕ) : Type 0 where
-  pub kept : KeepsSource told attached faults reads src0 src
+  pub kept : Passed told attached faults reads src0 src
   pub read : ReadsEach (told src0) geo old new (reads src0) (reads src) i
   pub moves : Moves OVERFLOW_LIST old new
   pub same_pages : new.pages ≡ geo.pages
@@ -126,7 +126,7 @@ pub going_start : {S : Type 0} (told attached : S → Option (List ℕ)) (faults
     → t.pages ≡ geo.pages → 7 ≤ length t.lists → rows ≡ [] → bad ≡ [] → notes ≡ []
     → Going told attached faults reads geo pages src src t t rows bad notes 0
 going_start told attached faults reads geo pages src t rows bad notes same lists no_rows no_bad no_notes = record {
-  kept = KeepsSource-refl told attached faults reads src;
+  kept = passed_none told attached faults reads src;
   read = always_told (λ all. IsWhole all geo → reads src + length (unused t) ≤ reads src + length (unused t) + 0) (told src) (λ all whole. omega arith);
   moves = Moves-none OVERFLOW_LIST t;
   same_pages = same;
@@ -150,13 +150,13 @@ pub going_more : {S : Type 0} {told attached : S → Option (List ℕ)} {faults 
     → IfSome (told src) (λ all. AllByRecursion (Evidence (file_of all geo)) (rows_of (outcomes_on (file_of all geo) p (unused new))))
     → IfSome (told src) (λ all. unread ≡ notes_of (outcomes_on (file_of all geo) p (unused new)))
     → IfSome (told src) (λ all. new' ≡ after_turns (file_of all geo) p new)
-    → AddsRows geo.usable geo.pages p none read → KeepsSource told attached faults reads src src' → Moves OVERFLOW_LIST new new'
+    → AddsRows geo.usable geo.pages p none read → KeepsSource told attached faults reads src src' → faults src' ≡ faults src → Moves OVERFLOW_LIST new new'
     → ReadsEach (told src) geo new new' (reads src) (reads src') 1
     → rows' ≡ rows ++ entries_in (map row_of read) → bad' ≡ bad ++ others read
     → notes' ≡ notes ++ (if nat_lt 0 unread.unread then (p, unread) ∷ [] else [])
     → Going told attached faults reads geo pages src0 src' old new' rows' bad' notes' (i + 1)
 going_more {told = told} {reads = reads} {geo = geo} {pages} {src0} {src} {old} {new} {rows} {bad} {notes} {i}
-    src' new' p none read unread rows' bad' notes' was are here lt empty value shown noted_so moved adds kept moves paid entered left noted_too =
+    src' new' p none read unread rows' bad' notes' was are here lt empty value shown noted_so moved adds kept steady moves paid entered left noted_too =
     let one : drop i pages ≡ p ∷ drop (i + 1) pages =
     drop_more pages i 0 lt ∙ ap (λ (q : ℕ). q ∷ drop (i + 1) pages) (sym here) in
     let all : read ≡ adds.more = adds.all ∙ ap (λ (ts : List TakenCell). ts ++ adds.more) empty in
@@ -165,7 +165,7 @@ going_more {told = told} {reads = reads} {geo = geo} {pages} {src0} {src} {old} 
     let at : (P : List ℕ → Type 0) → IfSome (told src) P → IfSome (told src0) P =
     λ P h. subst (λ (o : Option (List ℕ)). IfSome o P) was.kept.told h in
     record {
-      kept = KeepsSource-trans was.kept kept;
+      kept = passed_more was.kept kept steady;
       read = both_told (λ all. IsWhole all geo → reads src + length (unused new) ≤ reads src0 + length (unused old) + i)
           (λ all. IsWhole all geo → reads src' + length (unused new') ≤ reads src + length (unused new) + 1)
           (λ all. IsWhole all geo → reads src' + length (unused new') ≤ reads src0 + length (unused old) + (i + 1))

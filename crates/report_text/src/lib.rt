@@ -40,7 +40,7 @@ pub enum ReportLine {
 pub fn put_line<R: Sink>(line: &ReportLine, to: &mut R) -> Result<(), Failed>
     ensures writes { Writes (R.bytes to.old) (R.bytes to.new) (R.faults to.old) (R.faults to.new)
         (line_text line.now) result }
-    ensures kept { KeepsSink R.created R.faults to.old to.new }
+    ensures kept { KeepsSink R.created R.finished R.faults to.old to.new }
 {
     match line {
         ReportLine::Row {

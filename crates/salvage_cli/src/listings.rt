@@ -124,7 +124,7 @@ fn put_listing<S: Source, R: Sink>(
     ensures source { HasCauseOf Fault.InputFault (S.faults src.old) (S.faults src.new) result }
     ensures sink { HasCauseOf Fault.ReportFault (R.faults report.old) (R.faults report.new) result }
     ensures kept { KeepsSource S.bytes S.attached S.faults S.reads src.old src.new }
-    ensures kept_sink { KeepsSink R.created R.faults report.old report.new }
+    ensures kept_sink { KeepsSink R.created R.finished R.faults report.old report.new }
     ensures late { IsLate result }
 {
     match mode {

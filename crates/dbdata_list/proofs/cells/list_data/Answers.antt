@@ -1,11 +1,11 @@
-use Rattle.std.proofs.Common.{◌≡◌, ◌≤◌, ◌+◌, ◌-◌, ◌∙◌, ℕ, length, ap, arith, lit≤, subst, sym}
+use Rattle.std.proofs.Common.{◌≡◌, ◌≤◌, ◌+◌, ◌-◌, ◌∙◌, ℕ, length, ap, arith, lit≤, subst, sym, refl}
 use Rattle.page_access.specs.Files.{file_of}
-use Rattle.page_access.proofs.Keeps.{KeepsSink-refl, KeepsSink-trans, KeepsSource-refl, KeepsSource-trans}
+use Rattle.page_access.proofs.Keeps.{KeepsSink-refl, KeepsSink-trans, not_failed, passed_more, passed_none}
 use Rattle.page_lists.specs.Table.{Table, unused}
 use Rattle.page_walk.specs.Turns.{left_by}
 use Rattle.dbdata_list.specs.Listing.{pages_data}
 use Rattle.dbdata_list.specs.declared.faults.ListFault.TheVariants.{Memory, Sink}
-use Rattle.dbdata_list.proofs.Told.{passed_on, told_left, told_out, told_start, told_step, told_with}
+use Rattle.dbdata_list.proofs.Told.{passed_back, passed_on, told_left, told_out, told_start, told_step, told_with}
 use Rattle.dbdata_list.proofs.Turns.{data_all, data_more}
 use Rattle.dbdata_list.proofs.cells.list_data.Goals as goal
 
@@ -16,8 +16,9 @@ returns-in_err-table-clause-text g c = told_left _ Sink _ _ _ _ c.from_residual.
 pub loop-done-init : goal.loop-done-init
 loop-done-init g c = (
   told_start _ _ _ _ _ (λ all. data_all (file_of all c.args.geo.now) _ c.in_ok-table.ensures.value),
-  KeepsSource-refl _ _ _ _ _,
-  KeepsSink-refl _ _ _,
+  passed_none _ _ _ _ _,
+  KeepsSink-refl _ _ _ _,
+  refl,
   ap (λ (t : Table). t.pages) c.in_ok-table.ensures.value,
   subst (λ (t : Table). 7 ≤ length t.lists) (sym c.in_ok-table.ensures.value) (lit≤ tt),
 )
@@ -26,7 +27,7 @@ pub returns-in_err-list_cells-clause-text : goal.returns-in_err-list_cells-claus
 returns-in_err-list_cells-clause-text g c =
     told_out _ _ Sink _ Sink _ _ _ _ _ _ _ _ _ _
     (λ all. pages_data (file_of all c.args.geo.now) (c.args.geo.now.pages - (c.loop-done.done + 1)) (c.loop-done.done + 1 + 1) (left_by (file_of all c.args.geo.now) (c.loop-done.done + 1) (unused c.loop-done.table))) _
-    c.from_residual-in_err-list_cells.ensures.0 (passed_on _ _ _ c.from_residual-in_err-list_cells.ensures.1) c.loop-done.invariant.1.told
+    c.from_residual-in_err-list_cells.ensures.0 (passed_on _ _ _ c.from_residual-in_err-list_cells.ensures.1) (passed_back _ _ _ c.from_residual-in_err-list_cells.ensures.1) c.loop-done.invariant.1.told
     (λ all. data_more (file_of all c.args.geo.now) c.args.geo.now.pages c.loop-done.done (unused c.loop-done.table) (omega arith)) c.loop-done.invariant.0 c.in_err-list_cells.ensures.text
 
 pub loop-done-preserved : goal.loop-done-preserved
@@ -36,8 +37,9 @@ loop-done-preserved g c = (
       c.loop-done.invariant.1.told c.in_ok-list_cells.ensures.left
       (told_step _ Sink _ _ _ _ _ _ _ _ _ _ _ _ c.loop-done.invariant.1.told
       (λ all. data_more (file_of all c.args.geo.now) c.args.geo.now.pages c.loop-done.done (unused c.loop-done.table) (omega arith)) c.loop-done.invariant.0 c.in_ok-list_cells.ensures.text),
-  KeepsSource-trans c.loop-done.invariant.1 c.in_ok-list_cells.ensures.kept,
+  passed_more c.loop-done.invariant.1 c.in_ok-list_cells.ensures.kept (not_failed c.in_ok-list_cells.ensures.source.steady),
   KeepsSink-trans c.loop-done.invariant.2 c.in_ok-list_cells.ensures.kept_sink,
-  c.in_ok-list_cells.ensures.pages ∙ c.loop-done.invariant.3,
-  subst (λ (n : ℕ). 7 ≤ n) (sym c.in_ok-list_cells.ensures.lists_kept) c.loop-done.invariant.4,
+  not_failed c.in_ok-list_cells.ensures.sink.steady ∙ c.loop-done.invariant.3,
+  c.in_ok-list_cells.ensures.pages ∙ c.loop-done.invariant.4,
+  subst (λ (n : ℕ). 7 ≤ n) (sym c.in_ok-list_cells.ensures.lists_kept) c.loop-done.invariant.5,
 )

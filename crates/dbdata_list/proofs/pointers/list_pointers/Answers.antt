@@ -1,23 +1,24 @@
-use Rattle.std.proofs.Common.{◌+◌, ◌-◌, arith}
+use Rattle.std.proofs.Common.{◌+◌, ◌-◌, arith, refl, ◌∙◌}
 use Rattle.page_access.specs.Files.{file_of}
-use Rattle.page_access.proofs.Keeps.{KeepsSink-refl, KeepsSink-trans, KeepsSource-refl, KeepsSource-trans}
+use Rattle.page_access.proofs.Keeps.{KeepsSink-refl, KeepsSink-trans, not_failed, passed_more, passed_none}
 use Rattle.dbdata_list.specs.Listing.{page_pointers, pages_text, pointers_text}
 use Rattle.dbdata_list.specs.declared.faults.ListFault.TheVariants.{Sink}
-use Rattle.dbdata_list.proofs.Told.{pages_all, pages_more, passed_on, told_out, told_start, told_step}
+use Rattle.dbdata_list.proofs.Told.{pages_all, pages_more, passed_back, passed_on, told_out, told_start, told_step}
 use Rattle.dbdata_list.proofs.pointers.list_pointers.Goals as goal
 
 pub loop-done-init : goal.loop-done-init
 unfolding pointers_text
 loop-done-init g c = (
   told_start _ _ _ _ _ (λ all. pages_all (page_pointers (file_of all c.args.geo.now)) c.args.geo.now.pages),
-  KeepsSource-refl _ _ _ _ _,
-  KeepsSink-refl _ _ _,
+  passed_none _ _ _ _ _,
+  KeepsSink-refl _ _ _ _,
+  refl,
 )
 
 pub returns-in_err-list_page-clause-text : goal.returns-in_err-list_page-clause-text
 returns-in_err-list_page-clause-text g c =
     told_out _ _ Sink _ Sink _ _ _ _ _ _ _ _ _ _ (λ all. pages_text (page_pointers (file_of all c.args.geo.now)) (c.args.geo.now.pages - (c.loop-done.done + 1)) (c.loop-done.done + 1 + 1)) _
-    c.from_residual.ensures.0 (passed_on _ _ _ c.from_residual.ensures.1) c.loop-done.invariant.1.told
+    c.from_residual.ensures.0 (passed_on _ _ _ c.from_residual.ensures.1) (passed_back _ _ _ c.from_residual.ensures.1) c.loop-done.invariant.1.told
     (λ all. pages_more (page_pointers (file_of all c.args.geo.now)) c.args.geo.now.pages c.loop-done.done (omega arith)) c.loop-done.invariant.0 c.in_err-list_page.ensures.text
 
 pub loop-done-preserved : goal.loop-done-preserved
@@ -25,6 +26,7 @@ loop-done-preserved g c = (
   told_step _ Sink _ _ _ _ _ _ _ _ _ _ (λ all. pages_text (page_pointers (file_of all c.args.geo.now)) (c.args.geo.now.pages - (c.loop-done.done + 1)) (c.loop-done.done + 1 + 1)) _
       c.loop-done.invariant.1.told (λ all. pages_more (page_pointers (file_of all c.args.geo.now)) c.args.geo.now.pages c.loop-done.done (omega arith))
       c.loop-done.invariant.0 c.in_ok-list_page.ensures.text,
-  KeepsSource-trans c.loop-done.invariant.1 c.in_ok-list_page.ensures.kept,
+  passed_more c.loop-done.invariant.1 c.in_ok-list_page.ensures.kept (not_failed c.in_ok-list_page.ensures.source.steady),
   KeepsSink-trans c.loop-done.invariant.2 c.in_ok-list_page.ensures.kept_sink,
+  not_failed c.in_ok-list_page.ensures.sink.steady ∙ c.loop-done.invariant.3,
 )

@@ -13,4 +13,5 @@ returns-clause-table g c =
 
 pub returns-clause-evidence : goal.returns-clause-evidence
 returns-clause-evidence g c =
-    evidence_told _ _ c.args.geo.now c.args.page c.args.table.now c.pages-pages.ensures.partition c.requires.same_pages
+    evidence_told _ _ c.args.geo.now c.args.page c.args.table.now c.requires.page_least c.requires.page_most
+    c.pages-pages.ensures.partition c.requires.same_pages

@@ -4,6 +4,7 @@ use Rattle.std.proofs.lemmas.Int.{to_z-of_z}
 use Rattle.page_lists.proofs.Counts.{length-minus}
 use Rattle.page_lists.proofs.Uses.{Moves-append, Moves-none}
 use Rattle.page_access.specs.Files.{IsWhole}
+use Rattle.page_access.proofs.Keeps.{not_failed}
 use Rattle.page_walk.proofs.Going.{always_told}
 use Rattle.page_walk.proofs.Taking.{part_are_pages}
 use Rattle.page_walk.proofs.Walking.{no_reads, walking_start, walking_page, walking_moves, walking_more, walking_value, walking_reads, walked_tree, slice_named}
@@ -62,7 +63,7 @@ loop-at-preserved g c = record {
       c.deref.result.now c.take_all-in-loop-at.new.found.items c.index.result.now c.loop-at.invariant.walking c.requires.list_least
       c.requires.same_pages c.requires.kinds (omega arith) c.index.ensures c.clear.ensures.items
       (rw c.deref.ensures.value c.in_ok-push_pointers.ensures.value)
-      c.push_pointers.ensures.kept c.push_pointers.ensures.reads c.in_ok-take_all-2.ensures.took;
+      c.push_pointers.ensures.kept (not_failed c.in_ok-push_pointers.ensures.cause.steady) c.push_pointers.ensures.reads c.in_ok-take_all-2.ensures.took;
 }
 
 pub returns-clause-value : goal.returns-clause-value

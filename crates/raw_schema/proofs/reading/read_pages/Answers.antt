@@ -1,4 +1,5 @@
 use Rattle.std.proofs.Common.{ℕ, List, ap, arith, get_or, length}
+use Rattle.page_access.proofs.Keeps.{not_failed}
 use Rattle.raw_schema.proofs.Turns.{going_start, going_more, going_bad, going_moves, going_small}
 use Rattle.raw_schema.proofs.reading.read_pages.Goals as goal
 
@@ -15,7 +16,7 @@ loop-page-preserved g c =
     (ap (λ (ps : List ℕ). get_or ps c.loop-page.page-index 0) c.deref-page-items.ensures.value)
     (omega (arith, c.loop-page-test.true, ap length c.deref-page-items.ensures.value)) c.new-cells.ensures.items
     c.in_ok-unread.ensures.rows c.in_ok-unread.ensures.evidence c.in_ok-unread.ensures.notes c.in_ok-unread.ensures.table
-    c.in_ok-unread.ensures.adds c.in_ok-unread.ensures.kept c.in_ok-unread.ensures.moves c.in_ok-unread.ensures.reads
+    c.in_ok-unread.ensures.adds c.in_ok-unread.ensures.kept (not_failed c.in_ok-unread.ensures.cause.steady) c.in_ok-unread.ensures.moves c.in_ok-unread.ensures.reads
     c.in_ok-sort_out.ensures.rows c.in_ok-sort_out.ensures.bad c.in_ok-note.ensures
 
 pub returns-clause-bad : goal.returns-clause-bad

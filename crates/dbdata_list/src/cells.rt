@@ -1,18 +1,19 @@
 //! The listing of all cells.
-ghost use Rattle.std.specs.Prelude.{◌≡◌, ◌≤◌, ◌+◌, length, map, IfSome, OnOk};
+ghost use Rattle.std.specs.Prelude.{◌≡◌, ◌+◌, length, map, IfSome, OnOk};
 ghost use Rattle.page_access.specs.Files.{file_of};
 ghost use Rattle.page_access.specs.Outside.{HasCauseOf, KeepsSink, KeepsSource, Writes, WritesOf};
 ghost use Rattle.page_lists.specs.Table.{unused};
 ghost use Rattle.page_walk.specs.Cells.{outcome_of};
 ghost use Rattle.page_walk.specs.Turns.{left_by};
 ghost use Rattle.dbdata_list.specs.Listing.{data_text, page_data};
-ghost use Rattle.dbdata_list.specs.Text.{cause_text, outcome_text, outcomes_text};
+ghost use Rattle.dbdata_list.specs.Text.{outcome_text, outcomes_text};
 
 use crate::faults::ListFault;
 use crate::lines::{put_row, put_unread};
+use line_text::cause_word;
 use page_access::{Failed, Geometry, Sink, Source};
 use page_lists::PageTable;
-use page_walk::{CellCause, CellOutcome, LISTS, cells_of};
+use page_walk::{CellOutcome, LISTS, cells_of};
 use std::alloc::Global;
 
 /// Lists every cell of every page in rising order: a line `PAGE CELL FIELD VALUE` for each value of a
@@ -95,21 +96,6 @@ fn put_cell<R: Sink>(to: &mut R, page: u32, cell: &CellOutcome) -> Result<(), Fa
             taken.rowid,
             &taken.fields,
         ),
-        CellOutcome::Unread { cell, cause, .. } => put_unread(to, page, *cell, word(*cause)),
-    }
-}
-
-// The word for the cause of a cell that is not read.
-fn word(cause: CellCause) -> &'static str
-    ensures text { result.now ≡ cause_text cause }
-    ensures short { length result.now ≤ 32 }
-{
-    match cause {
-        CellCause::Pointer => "pointer",
-        CellCause::Cut => "cut",
-        CellCause::Length => "length",
-        CellCause::Overlap => "overlap",
-        CellCause::Chain => "chain",
-        CellCause::BadRecord => "record",
+        CellOutcome::Unread { cell, cause, .. } => put_unread(to, page, *cell, cause_word(*cause)),
     }
 }

@@ -1,6 +1,7 @@
 //! Pages of a file, and the outside that gives and takes bytes.
 #![tactic(auto)]
 
+mod caches;
 mod geometry;
 mod loads;
 mod outside;
@@ -8,6 +9,7 @@ mod sinks;
 mod sources;
 mod sparse;
 
+pub use caches::PageCache;
 pub use geometry::Geometry;
 pub use loads::{load, read_front};
 pub use outside::{Failed, ReadFault, Sink, Source};
@@ -15,5 +17,7 @@ pub use sinks::{MemFail, MemSink, SureSink};
 pub use sources::{MemSource, SureSource};
 pub use sparse::SparseSource;
 
+#[cfg(test)]
+mod cache_tests;
 #[cfg(test)]
 mod tests;

@@ -3,10 +3,10 @@
 //! List 0 holds the pages that have no use yet.
 #![tactic(auto)]
 
-ghost use Rattle.std.specs.Prelude.{◌≡◌, ◌-◌, ◌^◌, ◌<◌, ◌≤◌, IfOk, length, slice_get};
-ghost use Rattle.page_lists.specs.Lists.{after};
+ghost use Rattle.std.specs.Prelude.{◌≡◌, ◌-◌, ◌^◌, ◌<◌, ◌≤◌, IfOk, IsTrue, length, slice_get};
+ghost use Rattle.page_lists.specs.Lists.{after, is_in};
 ghost use Rattle.page_lists.specs.Rings.{some_page};
-ghost use Rattle.page_lists.specs.Table.{IsPartition, fresh, list_at, moved, owner};
+ghost use Rattle.page_lists.specs.Table.{IsPartition, fresh, list_at, moved, owner, unused};
 
 mod rings;
 
@@ -62,6 +62,21 @@ impl PageTable {
         ensures partition { IsPartition self.now }
     {
         self.rings.link(page).list
+    }
+
+    /// Whether the number is that of an unused page: one of 1 to n that is in list 0.
+    pub fn is_unused(&self, page: u32) -> bool
+        ensures value { result ≡ is_in page (unused self.now) }
+        ensures low { IsTrue result → 1 ≤ page }
+        ensures high { IsTrue result → page ≤ self.now.pages }
+    {
+        if page > self.pages {
+            return false;
+        }
+        if page == 0 {
+            return false;
+        }
+        self.list_of(page) == 0
     }
 
     /// Takes the page out of its list and makes it the last of `list`. All else stays in order.

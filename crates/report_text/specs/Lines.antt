@@ -3,7 +3,7 @@ use Rattle.std.specs.Prelude.{ℕ, Option, Some, None, List, ◌++◌, codes}
 use Rattle.std.specs.Fmt.{signed_decimal}
 use Rattle.record_core.specs.declared.values.Value.{Value}
 use Rattle.record_core.specs.declared.values.Value.TheVariants as values
-use Rattle.dbdata_list.specs.Text.{newline, place_text, value_text}
+use Rattle.line_text.specs.Text.{newline, place_text, value_text}
 use Rattle.raw_schema.specs.Spelling.{kind_text}
 use Rattle.report_text.specs.declared.ReportLine.{ReportLine}
 use Rattle.report_text.specs.declared.ReportLine.TheVariants.{Row, BadRow}

@@ -4,13 +4,13 @@ ghost use Rattle.std.specs.Fmt.{signed_decimal};
 ghost use Rattle.arrayvec.specs.ArrayVec.{array_vec_len};
 ghost use Rattle.hex.specs.Hex.{encode_lower};
 ghost use Rattle.page_access.specs.Outside.{KeepsSink, Writes};
-ghost use Rattle.dbdata_list.specs.Text.{newline, place_text, value_text};
+ghost use Rattle.line_text.specs.Text.{newline, place_text, value_text};
 ghost use Rattle.raw_schema.specs.Spelling.{kind_text};
 ghost use Rattle.report_text.specs.Lines.{line_text, sql_value};
 ghost use Rattle.report_text.specs.declared.ReportLine.TheVariants.{BadRow};
 
-use dbdata_list::{Line, add, place, put_hex};
 use itoa::Buffer;
+use line_text::{Line, add, place, put_hex};
 use page_access::{Failed, Sink};
 use raw_schema::SchemaKind;
 use record_core::Bytes;

@@ -6,7 +6,7 @@ ghost use Rattle.hex.specs.Hex.{encode_lower};
 ghost use Rattle.page_access.specs.Outside.{KeepsSink, Writes};
 ghost use Rattle.report_text.specs.Names.{esc, esc_byte, is_plain};
 
-use dbdata_list::{Line, add};
+use line_text::{Line, add};
 use page_access::{Failed, Sink};
 
 // Bytes of a name that are put in one call of the sink: each is 3 bytes of a line at most.

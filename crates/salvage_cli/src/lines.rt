@@ -2,12 +2,12 @@
 ghost use Rattle.std.specs.Prelude.{◌≡◌, ◌≤◌, ◌+◌, ◌++◌, length, decimal};
 ghost use Rattle.arrayvec.specs.ArrayVec.{array_vec_len};
 ghost use Rattle.page_access.specs.Outside.{KeepsSink, Writes};
-ghost use Rattle.dbdata_list.specs.Text.{newline};
+ghost use Rattle.line_text.specs.Text.{newline};
 ghost use Rattle.salvage_cli.specs.Answers.{fault_line, fault_text};
 
 use crate::faults::Fault;
-use dbdata_list::{Line, add};
 use itoa::Buffer;
+use line_text::{Line, add};
 use page_access::{Failed, Sink};
 
 /// Puts the line of a refusal.

@@ -1,10 +1,9 @@
 -- Words, groups and repetition: their readings are exact.
 use Rattle.std.proofs.Common.{◌≡◌, refl, sym, ap, ◌∙◌, subst, arith, ◌⊎◌, inl, inr, ℕ, zero, suc, ◌+◌, ◌≤◌, nat_eq, true, false, if◌then◌else◌, List, [], ◌∷◌, ◌++◌, length, length-append}
-use Rattle.std.proofs.lemmas.Bool.{true≢false, eqb-true}
+use Rattle.std.proofs.lemmas.Bool.{true≢false}
 use Rattle.std.specs.List.{AllByRecursion}
 use Rattle.word_grammar.specs.Form.{Labelled, sorts, has, opens, closes, bad, depth_behind, joined, IsWord, Closes, IsGroup, Then, Star}
 use Rattle.word_grammar.specs.Reading.{Reading, took, fails, with_front, and_then, next_in, is_some_class, reads_word, reads_inside, reads_group, reads_many}
-use Rattle.word_grammar.proofs.Tests.{no_nil}
 use Rattle.word_grammar.proofs.Starts.{OpensWith, some_word}
 use Rattle.word_grammar.proofs.Exact.{SameHead, Took, Failed, Exact, grow, by_test, Bridge, both, sorts_append}
 
@@ -139,25 +138,11 @@ inside_exact A (suc d) (w ∷ ws) = inside_at (inside_exact A (depth_behind d w)
         (λ p l c same. ((λ i. (c.0 i, same i)), subst (λ (z : ℕ). Closes (depth_behind d z) l) same c.2))
         e)
 
-group_refused : (A : List ℕ → Type 0) (ws : List ℕ)
-    → ((l : Labelled) (x : List ℕ) → IsGroup l → SameHead (sorts l ++ x) ws → ⊥) → Failed IsGroup A ws 0
-group_refused A ws never = refused IsGroup A ws ((0, opens) ∷ (0, closes) ∷ [])
-    ((0, closes) ∷ [], refl, (refl, refl, refl)) never
-
 pub group_exact : (A : List ℕ → Type 0) (ws : List ℕ) → Exact IsGroup A ws (reads_group ws)
-group_exact A [] = group_refused A [] (λ l x d s. first_none opens (sorts d.0 ++ x) (sorts l ++ x) (ap (λ z. sorts z ++ x) d.1) s)
-group_exact A (w ∷ ws) = by_test IsGroup A (w ∷ ws) (nat_eq w opens) (with_front ((0, w) ∷ []) (reads_inside 1 ws)) (fails 0)
-    (λ h. one_more IsGroup (Closes 1) A 0 w ws (reads_inside 1 ws)
-    (λ l c. (l, ap (λ z. (0, z) ∷ l) (eqb-true w opens h), c))
-    (λ d. no_nil (0, opens) d.0 (sym d.1))
-    (λ p l d same.
-    let first : p ≡ (0, opens) = cc in
-    let rest : l ≡ d.0 = cc in
-    (first ∙ ap (λ z. (0, z)) (sym (eqb-true w opens h)), subst (Closes 1) (sym rest) d.2))
-    (inside_exact A 1 ws))
-    (λ h. group_refused A (w ∷ ws) (λ l x d s.
-    let same = first_same opens w (sorts d.0 ++ x) (sorts l ++ x) ws (ap (λ z. sorts z ++ x) d.1) s in
-    true≢false (ap (λ z. nat_eq z opens) same ∙ h)))
+group_exact A ws = both (IsWord 0 (opens ∷ [])) (Closes 1) A (λ _. Unit {0}) ws
+    (reads_word 0 (opens ∷ []) ws) (reads_inside 1) (word_exact 0 (opens ∷ []) (λ _. Unit {0}) ws refl)
+    (record { passes = λ l x d a. tt; text = closing 1; is = closing_closes 1 })
+    (λ ls rest d e. inside_exact A 1 rest)
 
 -- ---- a form again and again
 

@@ -2,7 +2,7 @@
 use Rattle.std.proofs.Common.{◌≡◌, refl, sym, ap, ◌∙◌, subst, inl, inr, ℕ, true, false, ◌||◌, List, [], ◌∷◌, ◌++◌}
 use Rattle.std.proofs.lemmas.Bool.{true≢false, eq-eqb}
 use Rattle.std.specs.List.{AllByRecursion}
-use Rattle.word_grammar.specs.Form.{Form, nothing, group, word, follow, either, maybe, many, runs, Labelled, sorts, has, opens, closes, joined, Derives, IsWord, Then, Star}
+use Rattle.word_grammar.specs.Form.{Form, nothing, group, word, follow, either, maybe, many, runs, Labelled, sorts, has, opens, closes, joined, Derives, Closes, IsWord, Then, Star}
 use Rattle.word_grammar.specs.Reading.{firsts, may_be_empty, is_plain, is_some_class}
 use Rattle.word_grammar.proofs.Tests.{both_of, one_fails, none_holds, has_left, has_right, regroup, none_of, no_nil}
 
@@ -45,7 +45,7 @@ word_starts role class others D l x d =
 pub head_starts : (f : Form) (others : List ℕ) (l : Labelled) (x : List ℕ) → Derives f l → Follows others x
     → Follows (firsts f others) (sorts l ++ x)
 head_starts nothing others l x d h = subst (λ (t : Labelled). Follows others (sorts t ++ x)) (sym d) h
-head_starts group others l x d h = subst (λ (t : Labelled). Follows (opens ∷ []) (sorts t ++ x)) (sym d.1) refl
+head_starts group others l x d h = word_starts 0 (opens ∷ []) [] (Closes 1) l x d
 head_starts (word role class) others l x d h =
     subst (λ (t : Labelled). Follows class (sorts t ++ x)) (sym d.1) d.2
 head_starts (follow f g) others l x d h =
@@ -82,7 +82,7 @@ head_starts (runs role class f g) others l x d h = runs_start role class others 
 -- a form that is not empty has no empty text
 not_empty : (f : Form) (l : Labelled) → may_be_empty f ≡ false → Derives f l → l ≡ [] → ⊥
 not_empty nothing l h d e = true≢false h
-not_empty group l h d e = no_nil (0, opens) d.0 (sym d.1 ∙ e)
+not_empty group l h d e = no_nil (0, d.3.0) [] (sym d.3.1 ∙ (none_of d.0 d.1 (sym d.2 ∙ e)).0)
 not_empty (word role class) l h d e = no_nil (role, d.0) [] (sym d.1 ∙ e)
 not_empty (follow f g) l h d e =
     let parts = none_of d.0 d.1 (sym d.2 ∙ e) in
@@ -117,7 +117,8 @@ some_word role (s ∷ class) h = ((role, s) ∷ [], (s, refl, first s class))
 
 pub has_text : (f : Form) (others : List ℕ) → is_plain f others ≡ true → (ls : Labelled) × Derives f ls
 has_text nothing others h = ([], refl)
-has_text group others h = ((0, opens) ∷ (0, closes) ∷ [], ((0, closes) ∷ [], refl, (refl, refl, refl)))
+has_text group others h =
+    ((0, opens) ∷ (0, closes) ∷ [], ((0, opens) ∷ [], (0, closes) ∷ [], refl, (opens, refl, refl), (refl, refl, refl)))
 has_text (word role class) others h = some_word role class h
 has_text (follow f g) others h =
     let parts = both_of (is_plain f (firsts g others)) (is_plain g others) h in

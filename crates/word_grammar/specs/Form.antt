@@ -58,12 +58,13 @@ Closes zero ls = ls ≡ []
 Closes (suc d) [] = ⊥
 Closes (suc d) (l ∷ ls) = (l.0 ≡ 0) × (nat_eq l.1 bad ≡ false) × Closes (depth_behind d l.1) ls
 
--- an opening parenthesis, words and groups, and the parenthesis that closes it
-abbrev pub IsGroup : Labelled → Type 0
-IsGroup ls = (rest : Labelled) × (ls ≡ (0, opens) ∷ rest) × Closes 1 rest
-
+-- one text and then another
 abbrev pub Then : (Labelled → Type 0) → (Labelled → Type 0) → Labelled → Type 0
 Then D E ls = (x y : Labelled) × (ls ≡ x ++ y) × D x × E y
+
+-- an opening parenthesis, words and groups, and the parenthesis that closes it
+abbrev pub IsGroup : Labelled → Type 0
+IsGroup ls = Then (IsWord 0 (opens ∷ [])) (Closes 1) ls
 
 -- texts one after another
 abbrev pub joined : List Labelled → Labelled

@@ -47,8 +47,7 @@ reads_inside (suc d) (w ∷ ws) = if nat_eq w bad then fails 0
     else with_front ((0, w) ∷ []) (reads_inside (depth_behind d w) ws)
 
 abbrev pub reads_group : List ℕ → Reading
-reads_group [] = fails 0
-reads_group (w ∷ ws) = if nat_eq w opens then with_front ((0, w) ∷ []) (reads_inside 1 ws) else fails 0
+reads_group ws = and_then (reads_word 0 (opens ∷ []) ws) (reads_inside 1)
 
 -- the same form again while the next word may begin it, at most n times
 abbrev pub reads_many : ℕ → (List ℕ → Reading) → List ℕ → List ℕ → Reading

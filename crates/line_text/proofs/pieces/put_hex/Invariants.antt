@@ -2,7 +2,7 @@ use Rattle.std.proofs.Common.{length}
 use Rattle.hex.specs.Hex.{encode_lower}
 use Rattle.page_access.specs.Outside.{KeepsSink}
 use Rattle.page_access.proofs.Gains.{WroteFront}
-use Rattle.dbdata_list.proofs.lines.put_hex.Given as goal
+use Rattle.line_text.proofs.pieces.put_hex.Given as goal
 
 -- the digits of the bytes before the rest are written
 abbrev pub invariant-loop-rest : goal.invariant-loop-rest

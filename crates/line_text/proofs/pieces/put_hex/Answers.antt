@@ -1,8 +1,8 @@
 use Rattle.hex.specs.Hex.{encode_lower}
 use Rattle.page_access.proofs.Gains.{front_as, front_last, front_out, front_step}
 use Rattle.page_access.proofs.Keeps.{KeepsSink-trans}
-use Rattle.dbdata_list.proofs.Pieces.{hex-append, split_text}
-use Rattle.dbdata_list.proofs.lines.put_hex.Goals as goal
+use Rattle.line_text.proofs.Joined.{hex-append, split_text}
+use Rattle.line_text.proofs.pieces.put_hex.Goals as goal
 
 pub returns-in_err-put_digits-clause-writes : goal.returns-in_err-put_digits-clause-writes
 returns-in_err-put_digits-clause-writes g c =

@@ -1,0 +1,21 @@
+//! The words of a CREATE TABLE text, and their roles by its grammar (docs/CREATE_TABLE.md).
+#![tactic(auto)]
+
+ghost use Rattle.std.specs.Prelude.{◌≡◌, [], true};
+ghost use Rattle.create_grammar.specs.Grammar.{table};
+ghost use Rattle.word_grammar.specs.Reading.{is_plain};
+
+mod classes;
+mod pass;
+mod roles;
+mod sorts;
+mod spans;
+
+pub use roles::Role;
+pub use sorts::{Sort, code, same_name, sort_of, word_bytes};
+pub use spans::{Word, WordKind, words};
+
+/// One word of sight is enough for the grammar.
+pub fn grammar_is_plain()
+    ensures { is_plain table [] ≡ true }
+{}

@@ -1,6 +1,5 @@
 -- The steps of a pass, one after another.
-use Rattle.std.proofs.Common.{◌≡◌, refl, sym, ap, ◌∙◌, subst, arith, ℕ, zero, suc, ◌+◌, ◌-◌, ◌<◌, ◌≤◌, true, false, Bool, if◌then◌else◌, Result, Ok, Err, List, [], ◌∷◌, ◌++◌, append_assoc, append-nil, add-zero, add-one, length, length-append, drop, drop-cons, get_or, map, nat_eq}
-use Rattle.std.proofs.lemmas.Bool.{true≢false}
+use Rattle.std.proofs.Common.{◌≡◌, refl, sym, ap, ◌∙◌, subst, arith, ℕ, suc, ◌+◌, ◌<◌, ◌≤◌, false, Result, Ok, Err, List, [], ◌∷◌, ◌++◌, append_assoc, append-nil, add-zero, add-one, length, length-append, drop, drop-cons, get_or, map, nat_eq}
 use Rattle.std.proofs.lemmas.List.{drop-drop, map-append}
 use Rattle.create_grammar.specs.declared.pass.Pass.{Pass}
 use Rattle.create_grammar.specs.declared.pass.Stop.{Stop}
@@ -9,10 +8,9 @@ use Rattle.create_grammar.specs.declared.sorts.Sort.{Sort}
 use Rattle.create_grammar.specs.Roles.{role_code}
 use Rattle.create_grammar.specs.Sorts.{code}
 use Rattle.create_grammar.specs.declared.pass.Stop.TheVariants.{Form, Memory}
-use Rattle.create_grammar.specs.Pass.{rest_of, labels_of, Went, StopsOut, StopsAt, Did, Reads, Goes}
-use Rattle.word_grammar.specs.Form as grammar
-use Rattle.word_grammar.specs.Form.{Labelled, roles, many, maybe, bad, depth_behind}
-use Rattle.word_grammar.specs.Reading.{Reading, took, fails, with_front, and_then, next_in, firsts, reads, reads_inside, reads_many}
+use Rattle.create_grammar.specs.Pass.{rest_of, labels_of, Went, StopsOut, Did, Goes}
+use Rattle.word_grammar.specs.Form.{Labelled, roles, bad, depth_behind}
+use Rattle.word_grammar.specs.Reading.{Reading, took, fails, with_front, and_then, reads_inside}
 
 roles_append : (a b : Labelled) → roles (a ++ b) ≡ roles a ++ roles b
 roles_append [] b = refl
@@ -35,7 +33,7 @@ behind ls rest (took ms left) old mid new (Ok x) w d = record {
   at = (let first = w.at in let later = d.at in let len = length-append ls ms in omega (arith, first, later, len));
   left = d.left;
   labelled = d.labelled ∙ (ap (λ z. z ++ roles ms) w.labelled
-    ∙ (append_assoc (labels_of old) (roles ls) (roles ms) ∙ ap (λ z. labels_of old ++ z) (sym (roles_append ls ms))))
+      ∙ (append_assoc (labels_of old) (roles ls) (roles ms) ∙ ap (λ z. labels_of old ++ z) (sym (roles_append ls ms))));
 }
 behind ls rest (took ms left) old mid new (Err e) w d = d
 behind ls rest (fails n) old mid new (Ok x) w d = d
@@ -73,8 +71,8 @@ pub took_one : (old new : Pass) (role : Role) (w : ℕ) (ws : List ℕ) → rest
 took_one old new role w ws e at same roles = record {
   at = at;
   left = (λ i. map code (drop (at i) (same i))) ∙ (ap (map code) (sym (drop-drop 1 old.at old.sorts.now))
-    ∙ tail_of (drop old.at old.sorts.now) w ws e);
-  labelled = ap (map role_code) roles ∙ map-append role_code old.roles.items (role ∷ [])
+      ∙ tail_of (drop old.at old.sorts.now) w ws e);
+  labelled = ap (map role_code) roles ∙ map-append role_code old.roles.items (role ∷ []);
 }
 
 -- ---- the rest of a group

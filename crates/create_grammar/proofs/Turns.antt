@@ -28,7 +28,7 @@ gap_turn n at (b ∷ bytes) g e h =
 -- a word is taken
 word_turn : (n at : ℕ) (bytes : List ℕ) → 0 < length bytes → gap_len bytes ≡ 0
     → words_from (suc n) at bytes ≡ word_from at (front_word bytes)
-      ∷ words_from n (at + (front_word bytes).len) (drop (front_word bytes).len bytes)
+    ∷ words_from n (at + (front_word bytes).len) (drop (front_word bytes).len bytes)
 word_turn n at [] h e = absurd (omega (arith, h))
 word_turn n at (b ∷ bytes) h e =
     let test : (gap_len (b ∷ bytes) == 0) ≡ true = eq-eqb (gap_len (b ∷ bytes)) 0 e in
@@ -52,7 +52,7 @@ word_step sql at turn end w h l g e =
     let len = (front_word (drop at sql)).len in
     ap (λ v. v ∷ words_from (end - (turn + 1)) v.end (drop v.end sql)) e
     ∙ (ap (λ bytes. word_from at (front_word (drop at sql)) ∷ words_from (end - (turn + 1)) (at + len) bytes)
-      (sym (drop_add sql at len))
+    (sym (drop_add sql at len))
     ∙ (sym (word_turn (end - (turn + 1)) at (drop at sql) (simp length-drop (omega (arith, l))) g)
     ∙ ap (λ n. words_from n at (drop at sql)) (sym (fuel turn end h))))
 

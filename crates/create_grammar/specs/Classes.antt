@@ -3,7 +3,7 @@ use Rattle.std.specs.Prelude.{ℕ, zero, suc, ◌+◌, not, List, [], ◌∷◌,
 use Rattle.create_grammar.specs.declared.classes.Class.{Class}
 use Rattle.create_grammar.specs.declared.classes.Class.TheVariants as class
 use Rattle.create_grammar.specs.declared.sorts.Sort.{Sort}
-use Rattle.create_grammar.specs.declared.sorts.Sort.TheVariants.{Open, Close, Bad, Comma, Plus, Minus, Mark, Number, Blob, Quoted, Text, Create, Table, Virtual, Without, Rowid, Strict, Constraint, Primary, Key, Unique, Check, Foreign, Not, Null, Default, Collate, References, Generated, Always, As, Stored, Deferrable, Initially, Deferred, Immediate, Asc, Desc, Autoincrement, On, Conflict, Delete, Update, Insert, Set, Cascade, Restrict, No, Action, Match, Bare}
+use Rattle.create_grammar.specs.declared.sorts.Sort.TheVariants.{Plus, Minus, Number, Blob, Quoted, Text, Virtual, Without, Strict, Constraint, Primary, Unique, Check, Foreign, Not, Null, Default, Collate, References, Generated, As, Stored, Deferrable, Deferred, Immediate, Asc, Desc, On, Delete, Update, Insert, Cascade, Restrict, Match}
 use Rattle.create_grammar.specs.Sorts.{code}
 use Rattle.word_grammar.specs.Form.{has}
 

@@ -1,5 +1,4 @@
 -- The grammar of CREATE TABLE (docs/CREATE_TABLE.md, "The grammar"; lang_createtable.html).
-use Rattle.std.specs.Prelude.{ℕ, List, [], ◌∷◌}
 use Rattle.create_grammar.specs.declared.classes.Class.{Class}
 use Rattle.create_grammar.specs.declared.classes.Class.TheVariants.{One, Name, ColumnName, AnyBare, TypeWord, Value, Sign, Event, Effect, NullOrDefault, Deferral, Storage}
 use Rattle.create_grammar.specs.declared.roles.Role.{Role}
@@ -12,7 +11,6 @@ use Rattle.word_grammar.specs.Form.{Form, group, word, follow, either, maybe, ma
 
 infixr 4 ◌▷◌
 infixr 3 ◌∣◌
-
 -- one form and then another
 abbrev pub ◌▷◌ : Form → Form → Form
 f ▷ g = follow f g

@@ -4,3 +4,4 @@ pub mod Roles
 pub mod Classes
 pub mod Grammar
 pub mod Pass
+pub mod Said

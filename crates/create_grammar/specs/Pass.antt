@@ -1,5 +1,5 @@
 -- A pass over the words of a text: what a step of it does (docs/CREATE_TABLE.md, "One word of sight").
-use Rattle.std.specs.Prelude.{◌≡◌, ℕ, zero, suc, ◌+◌, ◌<◌, ◌≤◌, true, false, nat_eq, Result, Ok, Err, List, [], ◌∷◌, ◌++◌, drop, length, map}
+use Rattle.std.specs.Prelude.{◌≡◌, ℕ, ◌+◌, Result, Ok, Err, List, ◌++◌, drop, length, map}
 use Rattle.create_grammar.specs.declared.pass.Pass.{Pass}
 use Rattle.create_grammar.specs.declared.pass.Stop.{Stop}
 use Rattle.create_grammar.specs.declared.pass.Stop.TheVariants.{Form, Memory}

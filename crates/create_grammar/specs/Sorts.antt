@@ -19,53 +19,53 @@ word_bytes sql w = take (w.end - w.start) (drop w.start sql)
 -- the sort of a bare word: a keyword, or another word
 unfoldable pub keyword_4 : List ℕ → Sort
 keyword_4 bytes = if same_name bytes (codes "DELETE") then Delete
-    else ( if same_name bytes (codes "UPDATE") then Update
-    else ( if same_name bytes (codes "INSERT") then Insert
-    else ( if same_name bytes (codes "SET") then Set
-    else ( if same_name bytes (codes "CASCADE") then Cascade
-    else ( if same_name bytes (codes "RESTRICT") then Restrict
-    else ( if same_name bytes (codes "NO") then No
-    else ( if same_name bytes (codes "ACTION") then Action
-    else ( if same_name bytes (codes "MATCH") then Match
+    else (if same_name bytes (codes "UPDATE") then Update
+    else (if same_name bytes (codes "INSERT") then Insert
+    else (if same_name bytes (codes "SET") then Set
+    else (if same_name bytes (codes "CASCADE") then Cascade
+    else (if same_name bytes (codes "RESTRICT") then Restrict
+    else (if same_name bytes (codes "NO") then No
+    else (if same_name bytes (codes "ACTION") then Action
+    else (if same_name bytes (codes "MATCH") then Match
     else Bare))))))))
 
 unfoldable pub keyword_3 : List ℕ → Sort
 keyword_3 bytes = if same_name bytes (codes "STORED") then Stored
-    else ( if same_name bytes (codes "DEFERRABLE") then Deferrable
-    else ( if same_name bytes (codes "INITIALLY") then Initially
-    else ( if same_name bytes (codes "DEFERRED") then Deferred
-    else ( if same_name bytes (codes "IMMEDIATE") then Immediate
-    else ( if same_name bytes (codes "ASC") then Asc
-    else ( if same_name bytes (codes "DESC") then Desc
-    else ( if same_name bytes (codes "AUTOINCREMENT") then Autoincrement
-    else ( if same_name bytes (codes "ON") then On
-    else ( if same_name bytes (codes "CONFLICT") then Conflict
+    else (if same_name bytes (codes "DEFERRABLE") then Deferrable
+    else (if same_name bytes (codes "INITIALLY") then Initially
+    else (if same_name bytes (codes "DEFERRED") then Deferred
+    else (if same_name bytes (codes "IMMEDIATE") then Immediate
+    else (if same_name bytes (codes "ASC") then Asc
+    else (if same_name bytes (codes "DESC") then Desc
+    else (if same_name bytes (codes "AUTOINCREMENT") then Autoincrement
+    else (if same_name bytes (codes "ON") then On
+    else (if same_name bytes (codes "CONFLICT") then Conflict
     else keyword_4 bytes)))))))))
 
 unfoldable pub keyword_2 : List ℕ → Sort
 keyword_2 bytes = if same_name bytes (codes "CHECK") then Check
-    else ( if same_name bytes (codes "FOREIGN") then Foreign
-    else ( if same_name bytes (codes "NOT") then Not
-    else ( if same_name bytes (codes "NULL") then Null
-    else ( if same_name bytes (codes "DEFAULT") then Default
-    else ( if same_name bytes (codes "COLLATE") then Collate
-    else ( if same_name bytes (codes "REFERENCES") then References
-    else ( if same_name bytes (codes "GENERATED") then Generated
-    else ( if same_name bytes (codes "ALWAYS") then Always
-    else ( if same_name bytes (codes "AS") then As
+    else (if same_name bytes (codes "FOREIGN") then Foreign
+    else (if same_name bytes (codes "NOT") then Not
+    else (if same_name bytes (codes "NULL") then Null
+    else (if same_name bytes (codes "DEFAULT") then Default
+    else (if same_name bytes (codes "COLLATE") then Collate
+    else (if same_name bytes (codes "REFERENCES") then References
+    else (if same_name bytes (codes "GENERATED") then Generated
+    else (if same_name bytes (codes "ALWAYS") then Always
+    else (if same_name bytes (codes "AS") then As
     else keyword_3 bytes)))))))))
 
 unfoldable pub keyword_1 : List ℕ → Sort
 keyword_1 bytes = if same_name bytes (codes "CREATE") then Create
-    else ( if same_name bytes (codes "TABLE") then Table
-    else ( if same_name bytes (codes "VIRTUAL") then Virtual
-    else ( if same_name bytes (codes "WITHOUT") then Without
-    else ( if same_name bytes (codes "ROWID") then Rowid
-    else ( if same_name bytes (codes "STRICT") then Strict
-    else ( if same_name bytes (codes "CONSTRAINT") then Constraint
-    else ( if same_name bytes (codes "PRIMARY") then Primary
-    else ( if same_name bytes (codes "KEY") then Key
-    else ( if same_name bytes (codes "UNIQUE") then Unique
+    else (if same_name bytes (codes "TABLE") then Table
+    else (if same_name bytes (codes "VIRTUAL") then Virtual
+    else (if same_name bytes (codes "WITHOUT") then Without
+    else (if same_name bytes (codes "ROWID") then Rowid
+    else (if same_name bytes (codes "STRICT") then Strict
+    else (if same_name bytes (codes "CONSTRAINT") then Constraint
+    else (if same_name bytes (codes "PRIMARY") then Primary
+    else (if same_name bytes (codes "KEY") then Key
+    else (if same_name bytes (codes "UNIQUE") then Unique
     else keyword_2 bytes)))))))))
 
 -- the sort of a mark

@@ -131,7 +131,7 @@ words_from zero at bytes = []
 words_from (suc n) at [] = []
 words_from (suc n) at (b ∷ bytes) = if gap_len (b ∷ bytes) == 0
     then word_from at (front_word (b ∷ bytes)) ∷ words_from n (at + (front_word (b ∷ bytes)).len)
-      (drop (front_word (b ∷ bytes)).len (b ∷ bytes))
+    (drop (front_word (b ∷ bytes)).len (b ∷ bytes))
     else words_from n (at + gap_len (b ∷ bytes)) (drop (gap_len (b ∷ bytes)) (b ∷ bytes))
 
 abbrev pub words_of : List ℕ → List Word

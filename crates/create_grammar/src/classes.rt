@@ -381,8 +381,7 @@ fn is_sign(sort: Sort) -> bool
     ensures { result ≡ has (class_of class.Sign) (code sort) }
 {
     match sort {
-        Sort::Plus
-        | Sort::Minus => true,
+        Sort::Plus | Sort::Minus => true,
         Sort::Open
         | Sort::Close
         | Sort::Bad
@@ -439,9 +438,7 @@ fn is_event(sort: Sort) -> bool
     ensures { result ≡ has (class_of class.Event) (code sort) }
 {
     match sort {
-        Sort::Delete
-        | Sort::Update
-        | Sort::Insert => true,
+        Sort::Delete | Sort::Update | Sort::Insert => true,
         Sort::Open
         | Sort::Close
         | Sort::Bad
@@ -497,8 +494,7 @@ fn is_effect(sort: Sort) -> bool
     ensures { result ≡ has (class_of class.Effect) (code sort) }
 {
     match sort {
-        Sort::Cascade
-        | Sort::Restrict => true,
+        Sort::Cascade | Sort::Restrict => true,
         Sort::Open
         | Sort::Close
         | Sort::Bad
@@ -555,8 +551,7 @@ fn is_null_or_default(sort: Sort) -> bool
     ensures { result ≡ has (class_of class.NullOrDefault) (code sort) }
 {
     match sort {
-        Sort::Null
-        | Sort::Default => true,
+        Sort::Null | Sort::Default => true,
         Sort::Open
         | Sort::Close
         | Sort::Bad
@@ -613,8 +608,7 @@ fn is_deferral(sort: Sort) -> bool
     ensures { result ≡ has (class_of class.Deferral) (code sort) }
 {
     match sort {
-        Sort::Deferred
-        | Sort::Immediate => true,
+        Sort::Deferred | Sort::Immediate => true,
         Sort::Open
         | Sort::Close
         | Sort::Bad
@@ -671,8 +665,7 @@ fn is_storage(sort: Sort) -> bool
     ensures { result ≡ has (class_of class.Storage) (code sort) }
 {
     match sort {
-        Sort::Virtual
-        | Sort::Stored => true,
+        Sort::Virtual | Sort::Stored => true,
         Sort::Open
         | Sort::Close
         | Sort::Bad
@@ -729,8 +722,7 @@ fn is_order_word(sort: Sort) -> bool
     ensures { result ≡ has (class_of class.OrderWord) (code sort) }
 {
     match sort {
-        Sort::Asc
-        | Sort::Desc => true,
+        Sort::Asc | Sort::Desc => true,
         Sort::Open
         | Sort::Close
         | Sort::Bad
@@ -787,8 +779,7 @@ fn is_action_word(sort: Sort) -> bool
     ensures { result ≡ has (class_of class.ActionWord) (code sort) }
 {
     match sort {
-        Sort::On
-        | Sort::Match => true,
+        Sort::On | Sort::Match => true,
         Sort::Open
         | Sort::Close
         | Sort::Bad
@@ -845,8 +836,7 @@ fn is_option_word(sort: Sort) -> bool
     ensures { result ≡ has (class_of class.OptionWord) (code sort) }
 {
     match sort {
-        Sort::Without
-        | Sort::Strict => true,
+        Sort::Without | Sort::Strict => true,
         Sort::Open
         | Sort::Close
         | Sort::Bad
@@ -903,10 +893,7 @@ fn is_body_word(sort: Sort) -> bool
     ensures { result ≡ has (class_of class.BodyWord) (code sort) }
 {
     match sort {
-        Sort::Primary
-        | Sort::Unique
-        | Sort::Check
-        | Sort::Foreign => true,
+        Sort::Primary | Sort::Unique | Sort::Check | Sort::Foreign => true,
         Sort::Open
         | Sort::Close
         | Sort::Bad
@@ -961,11 +948,7 @@ fn is_table_word(sort: Sort) -> bool
     ensures { result ≡ has (class_of class.TableWord) (code sort) }
 {
     match sort {
-        Sort::Constraint
-        | Sort::Primary
-        | Sort::Unique
-        | Sort::Check
-        | Sort::Foreign => true,
+        Sort::Constraint | Sort::Primary | Sort::Unique | Sort::Check | Sort::Foreign => true,
         Sort::Open
         | Sort::Close
         | Sort::Bad
@@ -1019,8 +1002,7 @@ fn is_generated_word(sort: Sort) -> bool
     ensures { result ≡ has (class_of class.GeneratedWord) (code sort) }
 {
     match sort {
-        Sort::Generated
-        | Sort::As => true,
+        Sort::Generated | Sort::As => true,
         Sort::Open
         | Sort::Close
         | Sort::Bad
@@ -1077,8 +1059,7 @@ fn is_defer_word(sort: Sort) -> bool
     ensures { result ≡ has (class_of class.DeferWord) (code sort) }
 {
     match sort {
-        Sort::Not
-        | Sort::Deferrable => true,
+        Sort::Not | Sort::Deferrable => true,
         Sort::Open
         | Sort::Close
         | Sort::Bad

@@ -6,11 +6,16 @@ ghost use Rattle.create_grammar.specs.Grammar.{table};
 ghost use Rattle.word_grammar.specs.Reading.{is_plain};
 
 mod classes;
+mod columns;
 mod pass;
+mod reading;
 mod roles;
+mod shared;
 mod sorts;
 mod spans;
+mod tables;
 
+pub use reading::{GrammarFault, Said, read_words};
 pub use roles::Role;
 pub use sorts::{Sort, code, same_name, sort_of, word_bytes};
 pub use spans::{Word, WordKind, words};

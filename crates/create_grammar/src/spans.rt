@@ -137,8 +137,14 @@ fn bare_word(rest: &[u8], blob: Option<usize>) -> FrontWord
     ensures within { result.len ≤ 1 + length rest.now }
 {
     match blob {
-        Some(len) => FrontWord { kind: WordKind::Blob, len: 1 + len },
-        None => FrontWord { kind: WordKind::Bare, len: 1 + bare_len(rest) },
+        Some(len) => FrontWord {
+            kind: WordKind::Blob,
+            len: 1 + len,
+        },
+        None => FrontWord {
+            kind: WordKind::Bare,
+            len: 1 + bare_len(rest),
+        },
     }
 }
 
@@ -174,9 +180,15 @@ fn other_word(first: u8, rest: &[u8]) -> FrontWord
     } else if first == b'\'' {
         closed_word(WordKind::Text, rest, quoted_len(b'\'', rest))
     } else if first.is_ascii_digit() || (first == b'.' && begins_with_digit(rest)) {
-        FrontWord { kind: WordKind::Number, len: 1 + number_len(first, rest) }
+        FrontWord {
+            kind: WordKind::Number,
+            len: 1 + number_len(first, rest),
+        }
     } else {
-        FrontWord { kind: WordKind::Mark(first), len: 1 }
+        FrontWord {
+            kind: WordKind::Mark(first),
+            len: 1,
+        }
     }
 }
 
@@ -187,7 +199,10 @@ fn closed_word(kind: WordKind, rest: &[u8], len: Option<usize>) -> FrontWord
 {
     match len {
         Some(len) => FrontWord { kind, len: 1 + len },
-        None => FrontWord { kind: WordKind::Bad, len: 1 + rest.len() },
+        None => FrontWord {
+            kind: WordKind::Bad,
+            len: 1 + rest.len(),
+        },
     }
 }
 

@@ -1,5 +1,5 @@
 //! The listing of all cells.
-ghost use Rattle.std.specs.Prelude.{◌≡◌, ◌+◌, length, map, IfSome, OnOk};
+ghost use Rattle.std.specs.Prelude.{◌≡◌, ◌≤◌, ◌+◌, length, map, IfSome, OnOk};
 ghost use Rattle.page_access.specs.Files.{file_of};
 ghost use Rattle.page_access.specs.Outside.{HasCauseOf, KeepsSink, KeepsSource, Writes, WritesOf};
 ghost use Rattle.page_lists.specs.Table.{unused};

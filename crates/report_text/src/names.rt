@@ -22,8 +22,8 @@ pub(crate) fn put_name<R: Sink>(to: &mut R, name: &[u8]) -> Result<(), Failed>
     to.put(b" ")
 }
 
-// Puts a name.
-fn put_esc<R: Sink>(to: &mut R, name: &[u8]) -> Result<(), Failed>
+/// Puts a name.
+pub(crate) fn put_esc<R: Sink>(to: &mut R, name: &[u8]) -> Result<(), Failed>
     ensures writes { Writes (R.bytes to.old) (R.bytes to.new) (R.faults to.old) (R.faults to.new)
         (esc name.now) result }
     ensures kept { KeepsSink R.created R.finished R.faults to.old to.new }

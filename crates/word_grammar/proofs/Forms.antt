@@ -79,9 +79,9 @@ word_opens : (role : ℕ) (class : List ℕ) (l : Labelled) → IsWord role clas
 word_opens role class l d = record { sort = d.0; more = []; is = ap sorts d.1; among = d.2 }
 
 later_items : (F G : Labelled → Type 0) (role : ℕ) (class others later : List ℕ) (parts : Parts)
-    → Runs F G role class others later parts → (n : ℕ) (ws : List ℕ) → length ws ≤ n
-    → Exact (Star (Items role class G)) (Follows others) ws (reads_later n role class parts ws)
-later_items F G role class others later parts k n ws h =
+    → Runs F G role class others later parts → (ws : List ℕ)
+    → Exact (Star (Items role class G)) (Follows others) ws (reads_later role class parts ws)
+later_items F G role class others later parts k ws =
     star_exact (Items role class G) (Follows others) (Follows (class ++ others)) class
     (λ xs. and_then (reads_word role class xs) parts.later)
     (record {
@@ -96,7 +96,7 @@ later_items F G role class others later parts k n ws h =
       };
       opens = item_opens role class G;
       ends = never_follows class others k.ends;
-    }) n ws h
+    }) (length ws) ws (omega arith)
 
 -- what stands behind a separating word: a first part and all that follows, or a later part and further ones
 abbrev Behind : ℕ → List ℕ → (Labelled → Type 0) → (Labelled → Type 0) → Labelled → Type 0
@@ -108,11 +108,11 @@ behind_exact : (F G : Labelled → Type 0) (role : ℕ) (class others later : Li
     → (ws : List ℕ) → length ws ≤ n
     → Exact (Behind role class F G) (Follows others) ws (if next_in parts.first_sorts ws
     then and_then (parts.first ws) (reads_runs n role class parts)
-    else and_then (parts.later ws) (reads_later n role class parts))
+    else and_then (parts.later ws) (reads_later role class parts))
 behind_exact F G role class others later parts k n again ws h =
     by_test (Behind role class F G) (Follows others) ws (next_in parts.first_sorts ws)
     (and_then (parts.first ws) (reads_runs n role class parts))
-    (and_then (parts.later ws) (reads_later n role class parts))
+    (and_then (parts.later ws) (reads_later role class parts))
     (λ go. grow (Then F (All role class F G)) (Behind role class F G) (Follows others) ws
     (and_then (parts.first ws) (reads_runs n role class parts))
     (λ l d. inl d)
@@ -126,18 +126,17 @@ behind_exact F G role class others later parts k n again ws h =
     })
     (λ ls rest d e. again rest (left parts.first_sorts rest ls (k.first_opens ls d) e))))
     (λ go. grow (Then G (Star (Items role class G))) (Behind role class F G) (Follows others) ws
-    (and_then (parts.later ws) (reads_later n role class parts))
+    (and_then (parts.later ws) (reads_later role class parts))
     (λ l d. inr d)
     (λ l x d a s. is_later go l x d s)
     (both G (Star (Items role class G)) (Follows others) (Follows (class ++ others)) ws (parts.later ws)
-    (reads_later n role class parts) (k.later_exact ws)
+    (reads_later role class parts) (k.later_exact ws)
     (record {
       passes = λ l x d a. items_pass role class others G l x d (follows_right class others x a);
       text = [];
       is = ([], refl, tt);
     })
-    (λ ls rest d e. later_items F G role class others later parts k n rest
-    (left later rest ls (k.later_opens ls d) e))))
+    (λ ls rest d e. later_items F G role class others later parts k rest)))
   where
     left : (first rest : List ℕ) (ls : Labelled) → OpensWith first ls → ws ≡ sorts ls ++ rest → length rest ≤ n
     left first rest ls o e = shorter first ls rest ws n o e (omega (arith, h))
@@ -234,18 +233,18 @@ runs_exact F G role class others later parts k (suc n) ws h =
     runs_at again = by_test (All role class F G) (Follows others) ws (next_in class ws)
         (and_then (reads_word role class ws) (λ xs. if next_in parts.first_sorts xs
         then and_then (parts.first xs) (reads_runs n role class parts)
-        else and_then (parts.later xs) (reads_later n role class parts)))
+        else and_then (parts.later xs) (reads_later role class parts)))
         (took [] ws)
         (λ go. grow (Then (IsWord role class) (Behind role class F G)) (All role class F G) (Follows others) ws
         (and_then (reads_word role class ws) (λ xs. if next_in parts.first_sorts xs
         then and_then (parts.first xs) (reads_runs n role class parts)
-        else and_then (parts.later xs) (reads_later n role class parts)))
+        else and_then (parts.later xs) (reads_later role class parts)))
         (joins role class F G)
         (off go)
         (both (IsWord role class) (Behind role class F G) (Follows others) (λ _. Unit {0}) ws (reads_word role class ws)
         (λ xs. if next_in parts.first_sorts xs
         then and_then (parts.first xs) (reads_runs n role class parts)
-        else and_then (parts.later xs) (reads_later n role class parts))
+        else and_then (parts.later xs) (reads_later role class parts))
         (word_exact role class (λ _. Unit {0}) ws k.some)
         (record {
           passes = λ l x d a. tt;

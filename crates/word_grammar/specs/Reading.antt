@@ -61,16 +61,18 @@ pub record Parts : Type 0 where
   pub first_sorts : List ℕ
   pub later : List ℕ → Reading
 
--- (c g)* and (c f)* (c g)*, at most n times
-abbrev pub reads_later : ℕ → ℕ → List ℕ → Parts → List ℕ → Reading
-reads_later n role class parts ws = reads_many n (λ xs. and_then (reads_word role class xs) parts.later) class ws
+-- (c g)*
+abbrev pub reads_later : ℕ → List ℕ → Parts → List ℕ → Reading
+reads_later role class parts ws =
+    reads_many (length ws) (λ xs. and_then (reads_word role class xs) parts.later) class ws
 
+-- (c f)* (c g)*, with at most n of the first
 abbrev pub reads_runs : ℕ → ℕ → List ℕ → Parts → List ℕ → Reading
 reads_runs zero role class parts ws = took [] ws
 reads_runs (suc n) role class parts ws = if next_in class ws
     then and_then (reads_word role class ws) (λ xs. if next_in parts.first_sorts xs
     then and_then (parts.first xs) (reads_runs n role class parts)
-    else and_then (parts.later xs) (reads_later n role class parts))
+    else and_then (parts.later xs) (reads_later role class parts))
     else took [] ws
 
 abbrev pub reads : Form → List ℕ → Reading

@@ -7,5 +7,5 @@ loop-turn-preserved c = record {
   small = omega (arith, c.in-Ok.ensures.depth, c.loop-turn.invariant.small);
   place = omega (arith, c.in-Ok.ensures.at, c.loop-turn.invariant.place);
   words = ap length c.in-Ok.ensures.sorts ∙ c.loop-turn.invariant.words;
-  goes = λ new result d. c.loop-turn.invariant.goes new result (c.in-Ok.ensures.goes new result d)
+  goes = λ new result d. c.loop-turn.invariant.goes new result (c.in-Ok.ensures.goes new result d);
 }

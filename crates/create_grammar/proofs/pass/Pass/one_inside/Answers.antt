@@ -1,4 +1,4 @@
-use Rattle.std.proofs.Common.{◌≡◌, refl, sym, ◌∙◌, arith, suc, ◌+◌, ◌-◌, false, drop, get_or, map, nat_eq}
+use Rattle.std.proofs.Common.{◌≡◌, sym, ◌∙◌, arith, suc, ◌-◌, false, get_or, nat_eq}
 use Rattle.std.proofs.lemmas.Bool.{ne_eqb}
 use Rattle.create_grammar.specs.declared.sorts.Sort.TheVariants.{Open}
 use Rattle.create_grammar.specs.Sorts.{code}

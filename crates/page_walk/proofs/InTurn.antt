@@ -146,9 +146,11 @@ stepping_more {S} {A} {X} {s = s} {geo} {k} {xs} {left} {first} {now} {done} now
           (k.reads * length done) k.reads told was.read step.read);
       full = λ all.
           let before = was.full all in
-          let after = step.full before.0 in
-          (after.0, reads_more (s.bytes first.src) (s.bytes now.src) geo first.table now.table now'.table (s.reads first.src) (s.reads now.src) (s.reads now'.src)
-              0 0 told before.1 after.1);
+          let after = step.full before.0 in (
+            after.0,
+            reads_more (s.bytes first.src) (s.bytes now.src) geo first.table now.table now'.table (s.reads first.src) (s.reads now.src) (s.reads now'.src)
+                0 0 told before.1 after.1,
+          );
       value = both_told
           (λ all. done ++ in_turn (k.give all) k.taken left (unused now.table) ≡ in_turn (k.give all) k.taken xs (unused first.table))
           (λ all. x ≡ k.give all a (unused now.table))
@@ -186,9 +188,11 @@ pub stepping_full : {S A X : Type 0} {s : source.Ghosts S} {geo : Geometry} {k :
     → HasAll first.cache → HasAll c × ReadsEach (s.bytes first.src) geo first.table new (s.reads first.src) n more
 stepping_full {s = s} {geo} {first = first} {now} c new n more was step all =
     let before = was.full all in
-    let after = step before.0 in
-    (after.0, reads_weaker (s.bytes first.src) geo first.table new (s.reads first.src) n (0 + more) more (omega arith)
-        (reads_more (s.bytes first.src) (s.bytes now.src) geo first.table now.table new (s.reads first.src) (s.reads now.src) n 0 more was.kept.told before.1 after.1))
+    let after = step before.0 in (
+      after.0,
+      reads_weaker (s.bytes first.src) geo first.table new (s.reads first.src) n (0 + more) more (omega arith)
+          (reads_more (s.bytes first.src) (s.bytes now.src) geo first.table now.table new (s.reads first.src) (s.reads now.src) n 0 more was.kept.told before.1 after.1),
+    )
 
 all_mapped : {X Y : Type 0} (P : Y → Type 0) (f : X → Y) (xs : List X) → AllByRecursion (λ x. P (f x)) xs → AllByRecursion P (map f xs)
 all_mapped P f [] all = tt

@@ -61,8 +61,11 @@ returns-in_err-push-clause-full g c =
     c.turn_page.new.table (g.S.Source.reads c.args.src.now) (g.S.Source.reads c.turn_page.new.src) n) c.from_residual-in_err-push.result 0 1
     c.from_residual-in_err-push.ensures.0
     (stepping_full c.turn_page.new.cache c.turn_page.new.table (g.S.Source.reads c.turn_page.new.src) 1 c.loop-page.invariant.stepping
-    (λ all. let step = c.in_ok-turn.ensures.full all in (step.0, reads_weaker (g.S.Source.bytes c.loop-page.src) c.args.geo.now c.loop-page.table c.turn_page.new.table
-    (g.S.Source.reads c.loop-page.src) (g.S.Source.reads c.turn_page.new.src) 0 1 (omega arith) step.1)))
+    (λ all. let step = c.in_ok-turn.ensures.full all in (
+      step.0,
+      reads_weaker (g.S.Source.bytes c.loop-page.src) c.args.geo.now c.loop-page.table c.turn_page.new.table
+          (g.S.Source.reads c.loop-page.src) (g.S.Source.reads c.turn_page.new.src) 0 1 (omega arith) step.1,
+    )))
 
 pub returns-clause-value : goal.returns-clause-value
 returns-clause-value g c = stepping_value c.loop-page.invariant.stepping (drop_all c.loop-page.page-index c.args.pages.now (omega arith))

@@ -8,9 +8,9 @@ use Rattle.create_grammar.specs.declared.spans.WordKind.{WordKind}
 use Rattle.create_grammar.specs.declared.spans.WordKind.TheVariants as kind
 use Rattle.create_grammar.specs.Words.{words_of}
 
--- the same bytes, ASCII case ignored
-abbrev pub same_name : List ℕ → List ℕ → Bool
-same_name a b = str_eq_ignore_ascii_case a b
+-- the bytes of a keyword, ASCII case ignored
+abbrev pub is_word : List ℕ → List ℕ → Bool
+is_word a b = str_eq_ignore_ascii_case a b
 
 -- the bytes of a word
 abbrev pub word_bytes : List ℕ → Word → List ℕ
@@ -18,54 +18,54 @@ word_bytes sql w = take (w.end - w.start) (drop w.start sql)
 
 -- the sort of a bare word: a keyword, or another word
 unfoldable pub keyword_4 : List ℕ → Sort
-keyword_4 bytes = if same_name bytes (codes "DELETE") then Delete
-    else (if same_name bytes (codes "UPDATE") then Update
-    else (if same_name bytes (codes "INSERT") then Insert
-    else (if same_name bytes (codes "SET") then Set
-    else (if same_name bytes (codes "CASCADE") then Cascade
-    else (if same_name bytes (codes "RESTRICT") then Restrict
-    else (if same_name bytes (codes "NO") then No
-    else (if same_name bytes (codes "ACTION") then Action
-    else (if same_name bytes (codes "MATCH") then Match
+keyword_4 bytes = if is_word bytes (codes "DELETE") then Delete
+    else (if is_word bytes (codes "UPDATE") then Update
+    else (if is_word bytes (codes "INSERT") then Insert
+    else (if is_word bytes (codes "SET") then Set
+    else (if is_word bytes (codes "CASCADE") then Cascade
+    else (if is_word bytes (codes "RESTRICT") then Restrict
+    else (if is_word bytes (codes "NO") then No
+    else (if is_word bytes (codes "ACTION") then Action
+    else (if is_word bytes (codes "MATCH") then Match
     else Bare))))))))
 
 unfoldable pub keyword_3 : List ℕ → Sort
-keyword_3 bytes = if same_name bytes (codes "STORED") then Stored
-    else (if same_name bytes (codes "DEFERRABLE") then Deferrable
-    else (if same_name bytes (codes "INITIALLY") then Initially
-    else (if same_name bytes (codes "DEFERRED") then Deferred
-    else (if same_name bytes (codes "IMMEDIATE") then Immediate
-    else (if same_name bytes (codes "ASC") then Asc
-    else (if same_name bytes (codes "DESC") then Desc
-    else (if same_name bytes (codes "AUTOINCREMENT") then Autoincrement
-    else (if same_name bytes (codes "ON") then On
-    else (if same_name bytes (codes "CONFLICT") then Conflict
+keyword_3 bytes = if is_word bytes (codes "STORED") then Stored
+    else (if is_word bytes (codes "DEFERRABLE") then Deferrable
+    else (if is_word bytes (codes "INITIALLY") then Initially
+    else (if is_word bytes (codes "DEFERRED") then Deferred
+    else (if is_word bytes (codes "IMMEDIATE") then Immediate
+    else (if is_word bytes (codes "ASC") then Asc
+    else (if is_word bytes (codes "DESC") then Desc
+    else (if is_word bytes (codes "AUTOINCREMENT") then Autoincrement
+    else (if is_word bytes (codes "ON") then On
+    else (if is_word bytes (codes "CONFLICT") then Conflict
     else keyword_4 bytes)))))))))
 
 unfoldable pub keyword_2 : List ℕ → Sort
-keyword_2 bytes = if same_name bytes (codes "CHECK") then Check
-    else (if same_name bytes (codes "FOREIGN") then Foreign
-    else (if same_name bytes (codes "NOT") then Not
-    else (if same_name bytes (codes "NULL") then Null
-    else (if same_name bytes (codes "DEFAULT") then Default
-    else (if same_name bytes (codes "COLLATE") then Collate
-    else (if same_name bytes (codes "REFERENCES") then References
-    else (if same_name bytes (codes "GENERATED") then Generated
-    else (if same_name bytes (codes "ALWAYS") then Always
-    else (if same_name bytes (codes "AS") then As
+keyword_2 bytes = if is_word bytes (codes "CHECK") then Check
+    else (if is_word bytes (codes "FOREIGN") then Foreign
+    else (if is_word bytes (codes "NOT") then Not
+    else (if is_word bytes (codes "NULL") then Null
+    else (if is_word bytes (codes "DEFAULT") then Default
+    else (if is_word bytes (codes "COLLATE") then Collate
+    else (if is_word bytes (codes "REFERENCES") then References
+    else (if is_word bytes (codes "GENERATED") then Generated
+    else (if is_word bytes (codes "ALWAYS") then Always
+    else (if is_word bytes (codes "AS") then As
     else keyword_3 bytes)))))))))
 
 unfoldable pub keyword_1 : List ℕ → Sort
-keyword_1 bytes = if same_name bytes (codes "CREATE") then Create
-    else (if same_name bytes (codes "TABLE") then Table
-    else (if same_name bytes (codes "VIRTUAL") then Virtual
-    else (if same_name bytes (codes "WITHOUT") then Without
-    else (if same_name bytes (codes "ROWID") then Rowid
-    else (if same_name bytes (codes "STRICT") then Strict
-    else (if same_name bytes (codes "CONSTRAINT") then Constraint
-    else (if same_name bytes (codes "PRIMARY") then Primary
-    else (if same_name bytes (codes "KEY") then Key
-    else (if same_name bytes (codes "UNIQUE") then Unique
+keyword_1 bytes = if is_word bytes (codes "CREATE") then Create
+    else (if is_word bytes (codes "TABLE") then Table
+    else (if is_word bytes (codes "VIRTUAL") then Virtual
+    else (if is_word bytes (codes "WITHOUT") then Without
+    else (if is_word bytes (codes "ROWID") then Rowid
+    else (if is_word bytes (codes "STRICT") then Strict
+    else (if is_word bytes (codes "CONSTRAINT") then Constraint
+    else (if is_word bytes (codes "PRIMARY") then Primary
+    else (if is_word bytes (codes "KEY") then Key
+    else (if is_word bytes (codes "UNIQUE") then Unique
     else keyword_2 bytes)))))))))
 
 -- the sort of a mark

@@ -17,7 +17,7 @@ mod tables;
 
 pub use reading::{GrammarFault, Said, read_words};
 pub use roles::Role;
-pub use sorts::{Sort, code, same_name, sort_of, word_bytes};
+pub use sorts::word_bytes;
 pub use spans::{Word, WordKind, words};
 
 /// One word of sight is enough for the grammar.

@@ -1,7 +1,7 @@
 //! The sorts of words.
 
 ghost use Rattle.std.specs.Prelude.{◌≡◌};
-ghost use Rattle.create_grammar.specs.Sorts.{code, keyword_1, keyword_2, keyword_3, keyword_4, mark_sort, same_name, sort_of, word_bytes};
+ghost use Rattle.create_grammar.specs.Sorts.{code, keyword_1, keyword_2, keyword_3, keyword_4, mark_sort, is_word, sort_of, word_bytes};
 
 use crate::spans::{Word, WordKind};
 
@@ -69,9 +69,9 @@ pub enum Sort {
     Bare,
 }
 
-/// Whether two names are the same, ASCII case ignored.
-pub fn same_name(a: &[u8], b: &[u8]) -> bool
-    ensures { result ≡ same_name a.now b.now }
+// Whether the bytes are a keyword, ASCII case ignored.
+fn is_word(a: &[u8], b: &[u8]) -> bool
+    ensures { result ≡ is_word a.now b.now }
 {
     a.eq_ignore_ascii_case(b)
 }
@@ -129,25 +129,25 @@ fn mark_sort(byte: u8) -> Sort
 fn keyword_1(bytes: &[u8]) -> Sort
     ensures { result ≡ keyword_1 bytes.now }
 {
-    if same_name(bytes, b"CREATE") {
+    if is_word(bytes, b"CREATE") {
         Sort::Create
-    } else if same_name(bytes, b"TABLE") {
+    } else if is_word(bytes, b"TABLE") {
         Sort::Table
-    } else if same_name(bytes, b"VIRTUAL") {
+    } else if is_word(bytes, b"VIRTUAL") {
         Sort::Virtual
-    } else if same_name(bytes, b"WITHOUT") {
+    } else if is_word(bytes, b"WITHOUT") {
         Sort::Without
-    } else if same_name(bytes, b"ROWID") {
+    } else if is_word(bytes, b"ROWID") {
         Sort::Rowid
-    } else if same_name(bytes, b"STRICT") {
+    } else if is_word(bytes, b"STRICT") {
         Sort::Strict
-    } else if same_name(bytes, b"CONSTRAINT") {
+    } else if is_word(bytes, b"CONSTRAINT") {
         Sort::Constraint
-    } else if same_name(bytes, b"PRIMARY") {
+    } else if is_word(bytes, b"PRIMARY") {
         Sort::Primary
-    } else if same_name(bytes, b"KEY") {
+    } else if is_word(bytes, b"KEY") {
         Sort::Key
-    } else if same_name(bytes, b"UNIQUE") {
+    } else if is_word(bytes, b"UNIQUE") {
         Sort::Unique
     } else {
         keyword_2(bytes)
@@ -158,25 +158,25 @@ fn keyword_1(bytes: &[u8]) -> Sort
 fn keyword_2(bytes: &[u8]) -> Sort
     ensures { result ≡ keyword_2 bytes.now }
 {
-    if same_name(bytes, b"CHECK") {
+    if is_word(bytes, b"CHECK") {
         Sort::Check
-    } else if same_name(bytes, b"FOREIGN") {
+    } else if is_word(bytes, b"FOREIGN") {
         Sort::Foreign
-    } else if same_name(bytes, b"NOT") {
+    } else if is_word(bytes, b"NOT") {
         Sort::Not
-    } else if same_name(bytes, b"NULL") {
+    } else if is_word(bytes, b"NULL") {
         Sort::Null
-    } else if same_name(bytes, b"DEFAULT") {
+    } else if is_word(bytes, b"DEFAULT") {
         Sort::Default
-    } else if same_name(bytes, b"COLLATE") {
+    } else if is_word(bytes, b"COLLATE") {
         Sort::Collate
-    } else if same_name(bytes, b"REFERENCES") {
+    } else if is_word(bytes, b"REFERENCES") {
         Sort::References
-    } else if same_name(bytes, b"GENERATED") {
+    } else if is_word(bytes, b"GENERATED") {
         Sort::Generated
-    } else if same_name(bytes, b"ALWAYS") {
+    } else if is_word(bytes, b"ALWAYS") {
         Sort::Always
-    } else if same_name(bytes, b"AS") {
+    } else if is_word(bytes, b"AS") {
         Sort::As
     } else {
         keyword_3(bytes)
@@ -187,25 +187,25 @@ fn keyword_2(bytes: &[u8]) -> Sort
 fn keyword_3(bytes: &[u8]) -> Sort
     ensures { result ≡ keyword_3 bytes.now }
 {
-    if same_name(bytes, b"STORED") {
+    if is_word(bytes, b"STORED") {
         Sort::Stored
-    } else if same_name(bytes, b"DEFERRABLE") {
+    } else if is_word(bytes, b"DEFERRABLE") {
         Sort::Deferrable
-    } else if same_name(bytes, b"INITIALLY") {
+    } else if is_word(bytes, b"INITIALLY") {
         Sort::Initially
-    } else if same_name(bytes, b"DEFERRED") {
+    } else if is_word(bytes, b"DEFERRED") {
         Sort::Deferred
-    } else if same_name(bytes, b"IMMEDIATE") {
+    } else if is_word(bytes, b"IMMEDIATE") {
         Sort::Immediate
-    } else if same_name(bytes, b"ASC") {
+    } else if is_word(bytes, b"ASC") {
         Sort::Asc
-    } else if same_name(bytes, b"DESC") {
+    } else if is_word(bytes, b"DESC") {
         Sort::Desc
-    } else if same_name(bytes, b"AUTOINCREMENT") {
+    } else if is_word(bytes, b"AUTOINCREMENT") {
         Sort::Autoincrement
-    } else if same_name(bytes, b"ON") {
+    } else if is_word(bytes, b"ON") {
         Sort::On
-    } else if same_name(bytes, b"CONFLICT") {
+    } else if is_word(bytes, b"CONFLICT") {
         Sort::Conflict
     } else {
         keyword_4(bytes)
@@ -216,23 +216,23 @@ fn keyword_3(bytes: &[u8]) -> Sort
 fn keyword_4(bytes: &[u8]) -> Sort
     ensures { result ≡ keyword_4 bytes.now }
 {
-    if same_name(bytes, b"DELETE") {
+    if is_word(bytes, b"DELETE") {
         Sort::Delete
-    } else if same_name(bytes, b"UPDATE") {
+    } else if is_word(bytes, b"UPDATE") {
         Sort::Update
-    } else if same_name(bytes, b"INSERT") {
+    } else if is_word(bytes, b"INSERT") {
         Sort::Insert
-    } else if same_name(bytes, b"SET") {
+    } else if is_word(bytes, b"SET") {
         Sort::Set
-    } else if same_name(bytes, b"CASCADE") {
+    } else if is_word(bytes, b"CASCADE") {
         Sort::Cascade
-    } else if same_name(bytes, b"RESTRICT") {
+    } else if is_word(bytes, b"RESTRICT") {
         Sort::Restrict
-    } else if same_name(bytes, b"NO") {
+    } else if is_word(bytes, b"NO") {
         Sort::No
-    } else if same_name(bytes, b"ACTION") {
+    } else if is_word(bytes, b"ACTION") {
         Sort::Action
-    } else if same_name(bytes, b"MATCH") {
+    } else if is_word(bytes, b"MATCH") {
         Sort::Match
     } else {
         Sort::Bare

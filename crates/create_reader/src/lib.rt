@@ -20,3 +20,6 @@ pub use laws::{
 };
 pub use reading::read_create;
 pub use table_shape::{Column, Key, OutRow, OutTable, TableShape, stored_at};
+
+#[cfg(test)]
+mod tests;

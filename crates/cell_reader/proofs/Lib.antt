@@ -3,3 +3,4 @@ pub mod Blocks
 pub mod Marks
 pub mod Places
 pub mod Ranges
+pub mod Spelled

@@ -4,3 +4,4 @@ pub mod Inside
 pub mod Laws
 pub mod Screen
 pub mod Shape
+pub mod Spelling

@@ -1,4 +1,5 @@
 //! What the definitions of accepted cells say.
+ghost use Rattle.cell_reader.specs.Spelling.{ReadsBack, ReadsBackOnPage};
 ghost use Rattle.cell_reader.specs.Laws.{AcceptedAreApart, MarksTellVerdicts, OffersTellRanges};
 
 /// No two accepted cells of a page share a byte.
@@ -15,4 +16,10 @@ pub fn marks_tell_verdicts()
 /// An offer is taken exactly where the range shares no byte with those that are held.
 pub fn offers_tell_ranges()
     ensures { OffersTellRanges }
+{}
+
+/// A cell that is spelled is read back, whatever follows it and wherever on a page it stands.
+pub fn a_spelled_cell_is_read_back()
+    ensures parts { ReadsBack }
+    ensures page { ReadsBackOnPage }
 {}

@@ -10,7 +10,9 @@ mod shapes;
 
 pub use accepted::Accepted;
 pub use cells::{CellFault, CellView, cell};
-pub use laws::{accepted_cells_are_apart, marks_tell_verdicts, offers_tell_ranges};
+pub use laws::{
+    a_spelled_cell_is_read_back, accepted_cells_are_apart, marks_tell_verdicts, offers_tell_ranges,
+};
 pub use parts::local_size;
 pub use shapes::{Kind, PageShape, right_child, shape};
 

@@ -1,6 +1,6 @@
 use Rattle.std.proofs.Common.{◌∙◌, ap, ℕ, false, replicate}
 use Rattle.page_access.proofs.Keeps.{not_failed}
-use Rattle.page_walk.proofs.Going.{going_start, going_more, going_pages, going_lists, going_moves}
+use Rattle.page_walk.proofs.Going.{going_start, going_more, going_pages, going_lists, going_moves, going_value}
 use Rattle.page_walk.proofs.cells.add_cells.Goals as goal
 
 pub loop-i-init : goal.loop-i-init
@@ -25,3 +25,6 @@ loop-i-preserved g c =
     c.screen-cell.ensures.marked c.screen-cell.ensures.len c.in_ok-outcome.ensures.value c.in_ok-outcome.ensures.moved
     c.in_ok-outcome.ensures.small c.take_cell.ensures.kept (not_failed c.in_ok-outcome.ensures.cause.steady) c.take_cell.ensures.moves c.in_ok-outcome.ensures.reads
     c.in_ok-push_some.ensures.items
+
+pub returns-clause-value : goal.returns-clause-value
+returns-clause-value g c = going_value c.loop-i.invariant c.loop-i-test.false

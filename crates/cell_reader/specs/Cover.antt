@@ -1,5 +1,5 @@
 -- The bytes of a page that stand in accepted cells, a mark for each byte (docs/FORMAT.md, "Accepted cells").
-use Rattle.std.specs.Prelude.{◌≡◌, ◌<◌, ◌≤◌, ℕ, zero, suc, ◌+◌, ◌-◌, nat_le, nat_lt, Bool, true, false, not, ◌&&◌, if◌then◌else◌, Result, Ok, Err, List, [], ◌∷◌, ◌++◌, length, take, drop, replicate, slice_index_or}
+use Rattle.std.specs.Prelude.{◌≡◌, ◌<◌, ◌≤◌, ℕ, zero, suc, ◌+◌, ◌-◌, ◌/◌, nat_le, nat_lt, Bool, true, false, not, ◌&&◌, if◌then◌else◌, Result, Ok, Err, List, [], ◌∷◌, ◌++◌, length, take, drop, replicate, slice_index_or}
 use Rattle.std.specs.List.{AllByRecursion, list_all, list_any, slice_range}
 use Rattle.cell_reader.specs.declared.cells.CellView.{CellView}
 use Rattle.cell_reader.specs.declared.cells.CellFault.{CellFault}
@@ -12,6 +12,11 @@ is_free marks start end = list_all not (slice_range marks start end)
 -- the marks with those from `start` to before `end` set
 abbrev pub with_range : List Bool → ℕ → ℕ → List Bool
 with_range marks start end = take start marks ++ (replicate (end - start) true ++ drop end marks)
+
+-- a mark for each block of 256 marks: where it is not set, none of the block's marks is
+pub record IsBlocked (marks blocks : List Bool) : Type 0 where
+  pub many : length blocks ≡ length marks / 256 + 1
+  pub clear : (k : ℕ) → slice_index_or blocks (k / 256) false ≡ false → slice_index_or marks k false ≡ false
 
 -- byte k of the page stands in the cell
 abbrev pub covers : ℕ → CellView → Bool

@@ -63,6 +63,7 @@ pub fn local_size(kind: Kind, usable: u32, total: u64) -> u64
     requires most { usable ≤ 65536 }
     ensures value { result ≡ local_len kind usable total }
     ensures within { result ≤ total }
+    ensures some { 1 ≤ total → 1 ≤ result }
     ensures fits { result < usable }
 {
     let most = u64::from(most_local_len(kind, usable));

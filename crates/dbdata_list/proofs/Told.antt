@@ -2,6 +2,10 @@
 use Rattle.std.proofs.Common.{◌≡◌, ap, arith, ℕ, suc, ◌+◌, ◌-◌, ◌<◌, ◌≤◌, List, [], ◌++◌, Option, Some, None, Result, Ok, Err, IsErr, IsErrAnd, IsErrOf, sym, subst}
 use Rattle.std.specs.Prelude.{IfSome}
 use Rattle.page_access.specs.Outside.{WritesOf}
+use Rattle.page_access.specs.declared.outside.ReadFault.{ReadFault}
+use Rattle.page_access.specs.declared.outside.ReadFault.TheVariants as reads
+use Rattle.dbdata_list.specs.declared.faults.ListFault.TheVariants.{Sink}
+use Rattle.dbdata_list.specs.Faults.{of_read}
 use Rattle.dbdata_list.specs.Listing.{pages_text}
 use Rattle.page_access.proofs.Gains.{WroteFront, front_as, front_end_of, front_left, front_out_from, front_start, front_step_of}
 
@@ -73,3 +77,8 @@ pub told_left : {T E : Type 0} (r : Result T E) (fault : E) (told old : Option (
     → IfSome told (λ bytes. WritesOf fault old old f f (all bytes) r)
 told_left r fault None old f all is other = tt
 told_left r fault (Some bytes) old f all is other = front_left fault is other (front_start old f (all bytes))
+
+-- no fault of a read is the sink's
+pub read_is_not_sink : (fault : ReadFault) → of_read fault ≡ Sink → ⊥
+read_is_not_sink reads.Source e = cc
+read_is_not_sink reads.Memory e = cc

@@ -8,7 +8,7 @@ use Rattle.std.proofs.lemmas.Bool.Decides.{eqb_tells}
 use Rattle.lru.specs.LruCache.{IsValid, LruCache, lru_cache, promoted}
 use Rattle.page_access.specs.declared.geometry.Geometry.{Geometry}
 use Rattle.page_access.specs.declared.caches.PageCache.TheInside.{Inside}
-use Rattle.page_access.specs.Cache.{ArePairs, Cache, HasAll, HoldsPages, added, found, used}
+use Rattle.page_access.specs.Cache.{ArePairs, Cache, HasAll, HoldsPages, IsCacheOf, IsSame, added, found, used}
 use Rattle.page_access.specs.CacheStored.{IsSound, cache_of, shown}
 use Rattle.page_access.specs.Pages.{page_of}
 use Rattle.page_access.proofs.Pairs.{all_removed, all_taken, lookup_all, lookup_first, lookup_other, promoted_none, shown_keys, shown_lookup, shown_promoted, shown_taken}
@@ -166,3 +166,22 @@ pub miss_told : {E : Type 0} (r : Result Unit E) (told : Option (List ℕ)) (p :
 miss_told r None p to c new holds page ok err = tt
 miss_told (Ok u) (Some all) p to c new holds page ok err = subst (HoldsPages all) (sym ok) (holds_added all p to c holds page)
 miss_told (Err e) (Some all) p to c new holds page ok err = subst (HoldsPages all) (sym err) holds
+
+-- a cache for the file is one still
+pub cached_same : {told : Option (List ℕ)} {geo : Geometry} {c c' : Cache} → IsCacheOf told geo c → IsSame c c' → IfSome told (λ all. HoldsPages all c')
+    → IsCacheOf told geo c'
+cached_same was same holds = record { size = same.size ∙ was.size; pages = same.pages ∙ was.pages; holds = holds }
+
+-- it is one for what a source tells at another moment
+pub cached_at : {told told' : Option (List ℕ)} {geo : Geometry} {c : Cache} → told' ≡ told → IsCacheOf told geo c → IsCacheOf told' geo c
+cached_at {geo = geo} {c} same was = subst (λ (o : Option (List ℕ)). IsCacheOf o geo c) (sym same) was
+
+-- an empty cache is one for any file that is cut so
+pub new_cached : {told : Option (List ℕ)} {geo : Geometry} {c : Cache} {slots : ℕ} → c ≡ record { size = geo.page_size; pages = geo.pages; slots = slots; pairs = [] }
+    → IsCacheOf told geo c
+new_cached {told} {geo} {c} {slots} is =
+    subst (IsCacheOf told geo) (sym is) (record { size = refl; pages = refl; holds = none told })
+  where
+    none : (o : Option (List ℕ)) → IfSome o (λ all. HoldsPages all (record { size = geo.page_size; pages = geo.pages; slots = slots; pairs = [] }))
+    none None = tt
+    none (Some all) = tt

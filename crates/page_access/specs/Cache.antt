@@ -1,5 +1,5 @@
 -- Pages in memory, and what asking for one changes (docs/FORMAT.md, "Pages").
-use Rattle.std.specs.Prelude.{◌≡◌, ◌≤◌, ℕ, ◌-◌, nat_eq, is_some, IsTrue, Option, Some, Result, Ok, List, [], ◌∷◌, length, take}
+use Rattle.std.specs.Prelude.{◌≡◌, ◌≤◌, ℕ, ◌-◌, nat_eq, is_some, IfSome, IsTrue, Option, Some, Result, Ok, List, [], ◌∷◌, length, take}
 use Rattle.std.specs.List.{AllByRecursion, IsDistinct}
 use Rattle.std.specs.Map.{keys_of, lookup, remove_entry}
 use Rattle.page_access.specs.Pages.{page_of}
@@ -40,11 +40,6 @@ pub record ArePairs (c : Cache) : Type 0 where
   pub pages : AllByRecursion (λ e. (1 ≤ e.0) × (e.0 ≤ c.pages)) c.pairs
   pub whole : AllByRecursion (λ e. length e.1 ≡ c.size) c.pairs
 
--- the cache is one for files that are cut so
-pub record IsFor (geo : Geometry) (c : Cache) : Type 0 where
-  pub size : c.size ≡ geo.page_size
-  pub pages : c.pages ≡ geo.pages
-
 -- no call changes for which files and how many pages a cache is
 pub record IsSame (old new : Cache) : Type 0 where
   pub size : new.size ≡ old.size
@@ -56,3 +51,9 @@ pub record IsHit {E : Type 0} (p : ℕ) (bytes : List ℕ) (result : Result Unit
   pub ok : result ≡ Ok tt
   pub bytes_are : found p old ≡ Some bytes
   pub first : new ≡ used p bytes old
+
+-- the cache is one for files that are cut so, and its pairs are pages of the file where the source tells it
+pub record IsCacheOf (told : Option (List ℕ)) (geo : Geometry) (c : Cache) : Type 0 where
+  pub size : c.size ≡ geo.page_size
+  pub pages : c.pages ≡ geo.pages
+  pub holds : IfSome told (λ all. HoldsPages all c)

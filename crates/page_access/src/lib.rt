@@ -3,6 +3,7 @@
 
 mod caches;
 mod geometry;
+mod limited;
 mod loads;
 mod outside;
 mod sinks;
@@ -11,6 +12,7 @@ mod sparse;
 
 pub use caches::PageCache;
 pub use geometry::Geometry;
+pub use limited::{NarrowSource, SlowSource};
 pub use loads::{load, read_front};
 pub use outside::{Failed, ReadFault, Sink, Source};
 pub use sinks::{MemFail, MemSink, SureSink};

@@ -29,18 +29,17 @@ pub surveying_more : {S : Type 0} {told attached : S → Option (List ℕ)} {fau
     → Surveying told attached faults reads geo src0 src kinds i → i < geo.pages
     → IfSome (told src) (λ all. buffer ≡ page_of all geo.page_size (i + 1))
     → KeepsSource told attached faults reads src src' → faults src' ≡ faults src
-    → IfSome (told src) (λ all. (i + 1) * geo.page_size ≤ length all → reads src' ≤ reads src + 1)
+    → IfSome (told src) (λ all. IsWhole all geo → reads src' ≤ reads src + 1)
     → kind ≡ option_map (λ (s : PageShape). s.kind) (shape_of buffer (i + 1) geo.usable) → kinds' ≡ kinds ++ kind ∷ []
     → Surveying told attached faults reads geo src0 src' kinds' (i + 1)
 surveying_more {told = told} {reads = reads} {geo = geo} {src0} {src} {kinds} {i} src' buffer kind kinds' was lt page kept steady read is pushed =
-    let last : i + 1 ≤ geo.pages = omega arith in
     record {
       kept = passed_more was.kept kept steady;
       len = omega (arith, ap length pushed, length-append kinds (kind ∷ []), was.len);
       read = both_told (λ all. IsWhole all geo → reads src ≤ reads src0 + i)
-          (λ all. (i + 1) * geo.page_size ≤ length all → reads src' ≤ reads src + 1)
+          (λ all. IsWhole all geo → reads src' ≤ reads src + 1)
           (λ all. IsWhole all geo → reads src' ≤ reads src0 + (i + 1)) (told src0) (told src) was.kept.told
-          (λ all p q whole. omega (arith, p whole, q (omega (arith, whole, mul-le-mul_right geo.page_size last)))) was.read read;
+          (λ all p q whole. omega (arith, p whole, q whole)) was.read read;
       noted = both_told (λ all. kinds ≡ map (kind_on (file_of all geo)) (range_with_len 1 i))
           (λ all. buffer ≡ page_of all geo.page_size (i + 1))
           (λ all. kinds' ≡ map (kind_on (file_of all geo)) (range_with_len 1 (i + 1))) (told src0) (told src) was.kept.told

@@ -2,7 +2,7 @@
 use Rattle.std.proofs.Common.{◌≡◌, ◌≤◌, ℕ, suc, ◌+◌, ◌==◌, Bool, true, false, Option, Some, None, List, [], ◌∷◌, ◌++◌, refl, sym, ◌∙◌, ap, subst, arith}
 use Rattle.std.specs.Prelude.{nat_le, if◌then◌else◌, slice_get, IfSome, OnOk, Result, Ok, Err}
 use Rattle.std.proofs.lemmas.Bool.{and_from, le-leb}
-use Rattle.std.specs.List.{AllByRecursion, slice_range}
+use Rattle.std.specs.List.{AllByRecursion, flat_map, slice_range}
 use Rattle.page_access.specs.Pages.{File, page_at}
 use Rattle.page_lists.specs.Lists.{count, minus, without}
 use Rattle.page_access.specs.Files.{file_of}
@@ -20,10 +20,12 @@ use Rattle.cell_reader.specs.Screen.{Verdict, Accepts, Faulty, Overlaps, verdict
 use Rattle.overflow_chain.specs.declared.ChainEnd.{ChainEnd}
 use Rattle.overflow_chain.specs.declared.ChainEnd.TheVariants.{Whole, Broken}
 use Rattle.overflow_chain.proofs.Longest.{whole_turn_is_chain}
+use Rattle.page_walk.specs.Bounds.{ArePages}
 use Rattle.page_walk.specs.Cells.{Row, Outcome, Read, Unread, missing, turn_from, bytes_from, end_from, read_as, ended_as, entry_at, outcome_at, outcomes_from, outcomes_in, outcomes_on, outcomes_with, chains_of}
 use Rattle.page_walk.specs.Evidence.{Evidence, IsRest, AreOnce, ReadableHaveEvidence}
 use Rattle.page_walk.specs.Page.{screened_as, shape_on, verdicts_on, verdicts_in}
 use Rattle.page_walk.specs.Rows.{rows_of}
+use Rattle.page_walk.specs.Turns.{left_by, turns_on}
 use Rattle.page_walk.proofs.Going.{all_append}
 use Rattle.page_walk.proofs.Small.{record_short}
 
@@ -146,3 +148,13 @@ evidence_told (Err e) o geo p t low high each same = tt
 evidence_told (Ok a) None geo p t low high each same = tt
 evidence_told (Ok a) (Some all) geo p t low high each same =
     readable_have_evidence (file_of all geo) p (unused t) (and_from (nat_le 1 p) (nat_le p geo.pages) (le-leb 1 p low) (le-leb p geo.pages high)) (unused_once t geo.pages each same)
+
+-- each readable cell of pages has its evidence, whatever the pages before left
+pub pages_have_evidence : (f : File) (ps unused : List ℕ) → ArePages f.pages ps → AreOnce f.pages unused
+    → AllByRecursion (Evidence f) (flat_map (λ (t : ℕ × List Outcome). rows_of t.1) (turns_on f ps unused))
+pages_have_evidence f [] unused are once = tt
+pages_have_evidence f (p ∷ ps) unused are once =
+    all_append (Evidence f) (rows_of (outcomes_on f p unused)) _
+    (readable_have_evidence f p unused (and_from (nat_le 1 p) (nat_le p f.pages) (le-leb 1 p are.0.0) (le-leb p f.pages are.0.1)) once)
+    (pages_have_evidence f ps (left_by f p unused) are.1
+    (λ q. omega (arith, once q, fewer_minus q unused (chains_of (outcomes_on f p unused)))))

@@ -7,12 +7,15 @@ ghost use Rattle.page_walk.specs.Cells.{row_of};
 ghost use Rattle.salvage_cli.specs.Schema.{bad_line, lines_text, row_line, schema_text};
 
 use dbdata_list::ListFault;
-use page_access::{Failed, Geometry, ReadFault, Sink, Source};
+use page_access::{Failed, Geometry, PageCache, ReadFault, Sink, Source};
 use page_lists::PageTable;
 use page_walk::{LISTS, TakenCell, survey};
 use raw_schema::{RawSchema, SchemaRow, read_schema};
 use report_text::{ReportLine, put_line};
 use std::alloc::Global;
+
+// How many pages are in memory at a time.
+const CACHED_PAGES: u32 = 64;
 
 /// Lists the rows of the schema, and then the readable cells of its tree that are no rows of it.
 pub(crate) fn list_schema<S: Source, R: Sink>(
@@ -42,9 +45,10 @@ fn schema_of<S: Source>(alloc: Global, src: &mut S, geo: &Geometry) -> Result<Ra
     ensures source { HasCauseOf ReadFault.Source (S.faults src.old) (S.faults src.new) result }
     ensures kept { KeepsSource S.bytes S.attached S.faults S.reads src.old src.new }
 {
-    let kinds = survey(alloc, src, geo)?;
+    let mut cache = PageCache::new(alloc, geo, CACHED_PAGES)?;
+    let kinds = survey(alloc, src, geo, &mut cache)?;
     let mut table = PageTable::new(alloc, geo.pages, LISTS)?;
-    read_schema(alloc, src, geo, &kinds, &mut table)
+    read_schema(alloc, src, geo, &mut cache, &kinds, &mut table)
 }
 
 // Puts the lines of a schema.

@@ -271,3 +271,22 @@ found_rest m r parts none key o p n f k e =
     let parts_of = m.plan.now.parts.items in
     let no : has_null parts_of (held r) ≡ false = ap (λ (ps : List KeyPart). has_null ps (held r)) (sym p) ∙ sym n ∙ f in
     rw no (e ∙ ap (get (slice_cmp value_cmp) m.rows) (k ∙ ap (λ (ps : List KeyPart). key_of ps (held r)) p))
+
+-- no cells give no rows, and none is left
+pub no_cells : (t : Keys) (cells : List Row) → cells ≡ [] → AreSorted t cells cells []
+unfolding sorted_of
+no_cells t cells e = subst (λ (xs : List Row). AreSorted t xs xs []) (sym e) (record { ordered = refl; rows_are = refl; left_are = refl })
+
+pub none_left : (t : Keys) (cells rows : List Row) (left : List LeftCell) → cells ≡ []
+    → AreSorted t cells rows (map left_seen left) → left ≡ []
+unfolding sorted_of
+none_left t cells rows left e are = at left (subst (λ (xs : List Row). AreSorted t xs rows (map left_seen left)) e are).left_are
+  where
+    at : (ls : List LeftCell) → map left_seen ls ≡ [] → ls ≡ []
+    at [] e = refl
+    at (l ∷ ls) e = absurd (cc)
+
+-- where there is one of the second there is one of the first
+pub some_too : (n m : ℕ) → (n ≡ 0 → m ≡ 0) → 0 < m → 0 < n
+some_too zero m f h = let none : m ≡ 0 = f refl in absurd (omega arith)
+some_too (suc n) m f h = omega arith

@@ -2,8 +2,13 @@
 -- and clashes").
 use Rattle.std.specs.Prelude.{◌≡◌, ◌≢◌, ◌<◌, ◌↔◌, ◌⊎◌, ℕ, Bool, true, false, not, Option, Some, None, List, [], ◌∷◌, ◌++◌, filter, map}
 use Rattle.std.specs.List.{AllByRecursion, Contains}
-use Rattle.std.specs.List.Sorted.{IsPermutation}
-use Rattle.table_shape.specs.Keys.{AreRows, KeyParts, Keys, StoredRow, clash, clash_by, fits, same_key}
+use Rattle.std.specs.Cmp.Lexicographic.{slice_cmp}
+use Rattle.std.specs.List.Sorted.{IsPermutation, IsStrictlySortedBy}
+use Rattle.key_order.specs.Order.{value_cmp}
+use Rattle.table_shape.specs.declared.keys.KeyPart.{KeyPart}
+use Rattle.table_shape.specs.Entries.{entry_parts, in_order}
+use Rattle.table_shape.specs.Keys.{AreRows, KeyParts, Keys, StoredRow, clash, clash_by, fits, key_of, keys_of, parts_of, same_key}
+use Rattle.table_shape.specs.Shape.{IsShape, KeyColumns, Shape}
 use Rattle.page_walk.specs.declared.outcomes.Place.{Place}
 use Rattle.page_walk.specs.Cells.{Row}
 use Rattle.table_fill.specs.declared.fates.Fate.{Fate}
@@ -88,3 +93,16 @@ pub record Stays (t : Keys) (cells rows : List Row) : Type 0 where
 abbrev pub GoodRowsStay : Type 0
 GoodRowsStay = (t : Keys) (cells rows : List Row) → IsPermutation cells rows → AreRows t (map held rows)
     → Stays t cells rows
+
+-- the keys of a shape have strictly rising numbers
+abbrev pub ShapesRise : Type 0
+ShapesRise = (s : Shape) → IsShape s → AreRising 0 (keys_of s).keys
+
+-- the index records of a key, each by its row, rise strictly, and each row has one
+pub record RiseOnce (parts : List KeyPart) (rows : List StoredRow) : Type 0 where
+  pub rise : IsStrictlySortedBy (slice_cmp value_cmp) (map (λ e. e.0) (in_order (key_of parts) rows))
+  pub once : IsPermutation rows (map (λ e. e.1) (in_order (key_of parts) rows))
+
+abbrev pub EntriesRise : Type 0
+EntriesRise = (s : Shape) (key : KeyColumns) (rows : List StoredRow) → IsShape s → AreRows (keys_of s) rows
+    → RiseOnce (entry_parts (keys_of s) (parts_of s key)) rows

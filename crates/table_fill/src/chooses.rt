@@ -1,6 +1,6 @@
 //! Sorting out the cells of a table.
 
-ghost use Rattle.std.specs.Prelude.{◌≡◌, ◌≢◌, List, [], IfOk, IsErr, OnOk, map, Option};
+ghost use Rattle.std.specs.Prelude.{◌≡◌, ◌<◌, List, [], IfOk, IsErr, OnOk, map, Option, vec_len};
 ghost use Rattle.std.specs.BTreeMap.{get, insert_entry};
 ghost use Rattle.std.specs.Cmp.Lexicographic.{slice_cmp};
 ghost use Rattle.std.specs.Option.{option_map};
@@ -38,12 +38,41 @@ pub fn choose_rows(
     cells: Vec<TakenCell>,
 ) -> Result<Chosen, AllocError>
     ensures exact { IfOk result (IsChosen (keys_of (shape_seen shape.now)) (map row_of cells.items)) }
+    // Without cells no memory is taken.
+    ensures memory { IsErr result → 0 < vec_len cells }
+{
+    if cells.is_empty() {
+        return Ok(Chosen::Rows {
+            rows: cells,
+            left: Vec::new(alloc),
+        });
+    }
+    choose_some(alloc, shape, cells)
+}
+
+fn choose_some(
+    alloc: Global,
+    shape: &TableShape,
+    cells: Vec<TakenCell>,
+) -> Result<Chosen, AllocError>
+    ensures { IfOk result (IsChosen (keys_of (shape_seen shape.now)) (map row_of cells.items)) }
 {
     let plan = plan_keys(alloc, shape)?;
-    if let Some(place) = first_unordered(&plan, cells.as_slice()) {
+    choose_by(alloc, &plan, cells)
+}
+
+// Sorts out the cells by the keys of their table.
+pub fn choose_by(
+    alloc: Global,
+    plan: &TablePlan,
+    cells: Vec<TakenCell>,
+) -> Result<Chosen, AllocError>
+    ensures { IfOk result (IsChosen (keys_seen plan.now) (map row_of cells.items)) }
+{
+    if let Some(place) = first_unordered(plan, cells.as_slice()) {
         return Ok(Chosen::Unordered { cells, place });
     }
-    choose(alloc, &plan, cells)
+    choose(alloc, plan, cells)
 }
 
 fn choose(alloc: Global, plan: &TablePlan, cells: Vec<TakenCell>) -> Result<Chosen, AllocError>

@@ -1,6 +1,6 @@
 //! The rows of a table, its clashes and its misfits.
 
-ghost use Rattle.std.specs.Prelude.{◌≡◌, List, IfOk, map, Option};
+ghost use Rattle.std.specs.Prelude.{◌≡◌, ◌<◌, List, IfOk, IsErr, map, Option, vec_len};
 ghost use Rattle.table_shape.specs.Keys.{keys_of};
 ghost use Rattle.table_shape.specs.Seen.{shape_seen};
 ghost use Rattle.page_walk.specs.Cells.{row_of};
@@ -45,6 +45,8 @@ pub enum Filled {
 /// The rows of a table, its clashes and its misfits, as [`choose_rows`] sorts them out.
 pub fn fill(alloc: Global, shape: &TableShape, cells: Vec<TakenCell>) -> Result<Filled, AllocError>
     ensures exact { IfOk result (IsFilled (keys_of (shape_seen shape.now)) (map row_of cells.items)) }
+    // Without cells no memory is taken.
+    ensures memory { IsErr result → 0 < vec_len cells }
 {
     match choose_rows(alloc, shape, cells)? {
         Chosen::Rows { rows, left } => {
@@ -63,6 +65,7 @@ pub fn fill(alloc: Global, shape: &TableShape, cells: Vec<TakenCell>) -> Result<
 fn split(alloc: Global, left: Vec<LeftCell>) -> Result<(Vec<Clash>, Vec<TakenCell>), AllocError>
     ensures clashes { IfOk result (λ r. map clash_seen r.0.items ≡ clashes_in (map left_seen left.items)) }
     ensures misfits { IfOk result (λ r. map row_of r.1.items ≡ misfits_in (map left_seen left.items)) }
+    ensures memory { IsErr result → 0 < vec_len left }
 {
     let mut clashes = Vec::new(alloc);
     let mut misfits = Vec::new(alloc);

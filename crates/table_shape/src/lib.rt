@@ -15,3 +15,6 @@ pub use names::{is_reserved, same_name};
 pub use places::{has_real_key, stored_at};
 pub use rows::{OutRow, OutTable};
 pub use shapes::TableShape;
+
+#[cfg(test)]
+mod tests;

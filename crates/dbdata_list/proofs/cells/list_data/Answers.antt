@@ -1,5 +1,7 @@
-use Rattle.std.proofs.Common.{◌≡◌, ◌≤◌, ◌+◌, ◌-◌, ◌∙◌, ℕ, length, ap, arith, lit≤, subst, sym, refl}
+use Rattle.std.proofs.Common.{◌≡◌, ◌≤◌, ◌+◌, ◌-◌, ◌∙◌, ℕ, false, length, ap, arith, lit≤, subst, sym, refl}
 use Rattle.page_access.specs.Files.{file_of}
+use Rattle.std.proofs.lemmas.List.{length-replicate}
+use Rattle.page_access.proofs.Caching.{cached_at, new_cached}
 use Rattle.page_access.proofs.Keeps.{KeepsSink-refl, KeepsSink-trans, not_failed, passed_more, passed_none}
 use Rattle.page_lists.specs.Table.{Table, unused}
 use Rattle.page_walk.specs.Turns.{left_by}
@@ -21,6 +23,8 @@ loop-done-init g c = (
   refl,
   ap (λ (t : Table). t.pages) c.in_ok-table.ensures.value,
   subst (λ (t : Table). 7 ≤ length t.lists) (sym c.in_ok-table.ensures.value) (lit≤ tt),
+  new_cached c.in_ok-cache.ensures,
+  ap length c.in_ok-accepted.ensures ∙ length-replicate c.args.geo.now.usable false,
 )
 
 pub returns-in_err-list_cells-clause-text : goal.returns-in_err-list_cells-clause-text
@@ -42,4 +46,14 @@ loop-done-preserved g c = (
   not_failed c.in_ok-list_cells.ensures.sink.steady ∙ c.loop-done.invariant.3,
   c.in_ok-list_cells.ensures.pages ∙ c.loop-done.invariant.4,
   subst (λ (n : ℕ). 7 ≤ n) (sym c.in_ok-list_cells.ensures.lists_kept) c.loop-done.invariant.5,
+  cached_at c.in_ok-list_cells.ensures.kept.told c.in_ok-list_cells.ensures.cached,
+  c.in_ok-list_cells.ensures.marks ∙ c.loop-done.invariant.7,
 )
+
+pub returns-in_err-cache-clause-text : goal.returns-in_err-cache-clause-text
+returns-in_err-cache-clause-text g c = told_left _ Sink _ _ _ _ c.from_residual-in_err-cache.ensures.0
+    (λ e. let same : Memory ≡ Sink = passed_on _ Memory Sink c.from_residual-in_err-cache.ensures.1 e in absurd cc)
+
+pub returns-in_err-bytes-clause-text : goal.returns-in_err-bytes-clause-text
+returns-in_err-bytes-clause-text g c = told_left _ Sink _ _ _ _ c.from_residual-in_err-bytes.ensures.0
+    (λ e. let same : Memory ≡ Sink = passed_on _ Memory Sink c.from_residual-in_err-bytes.ensures.1 e in absurd cc)

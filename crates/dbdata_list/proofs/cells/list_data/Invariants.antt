@@ -1,4 +1,5 @@
 use Rattle.std.proofs.Common.{◌≡◌, ◌≤◌, ◌+◌, ◌-◌, length}
+use Rattle.page_access.specs.Cache.{IsCacheOf}
 use Rattle.page_access.specs.Files.{file_of}
 use Rattle.page_access.specs.Outside.{KeepsSink}
 use Rattle.page_access.proofs.Keeps.{Passed}
@@ -19,3 +20,5 @@ invariant-loop-done g l =
     × (r.faults l.to ≡ r.faults l.initial.to)
     × (l.table.pages ≡ l.geo.pages)
     × (7 ≤ length l.table.lists)
+    × IsCacheOf (s.bytes l.src) l.geo l.cache
+    × (length l.accepted ≡ l.geo.usable)

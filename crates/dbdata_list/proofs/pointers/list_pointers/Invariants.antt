@@ -1,4 +1,5 @@
-use Rattle.std.proofs.Common.{◌≡◌, ◌+◌, ◌-◌}
+use Rattle.std.proofs.Common.{◌≡◌, ◌+◌, ◌-◌, length}
+use Rattle.page_access.specs.Cache.{IsCacheOf}
 use Rattle.page_access.specs.Files.{file_of}
 use Rattle.page_access.specs.Outside.{KeepsSink}
 use Rattle.page_access.proofs.Keeps.{Passed}
@@ -16,3 +17,5 @@ invariant-loop-done g l =
     × Passed s.bytes s.attached s.faults s.reads l.initial.src l.src
     × KeepsSink r.created r.finished r.faults l.initial.to l.to
     × (r.faults l.to ≡ r.faults l.initial.to)
+    × IsCacheOf (s.bytes l.src) l.geo l.cache
+    × (length l.accepted ≡ l.geo.usable)

@@ -1,9 +1,10 @@
+use Rattle.std.proofs.Common.{◌∙◌, ap, ℕ, false, replicate}
 use Rattle.page_access.proofs.Keeps.{not_failed}
 use Rattle.page_walk.proofs.Going.{going_start, going_more, going_pages, going_lists, going_moves}
 use Rattle.page_walk.proofs.cells.add_cells.Goals as goal
 
 pub loop-i-init : goal.loop-i-init
-loop-i-init g c = going_start _ _ _ _ _ _ _ _ _ _ _ _ c.in_ok-accepted.ensures
+loop-i-init g c = going_start _ _ _ _ _ _ _ _ _ _ _ _ (c.clear.ensures ∙ ap (λ (n : ℕ). replicate n false) c.requires.marks)
 
 pub take_cell-requires-clause-same_pages : goal.take_cell-requires-clause-same_pages
 take_cell-requires-clause-same_pages g c = going_pages c.loop-i.invariant c.requires.same_pages

@@ -1,6 +1,6 @@
 use Rattle.std.specs.Vec.Iter.{into_iter_items, into_iter_len}
 use Rattle.page_walk.proofs.Sorting.{Sorting}
-use Rattle.page_walk.proofs.rows.sort_out.Given as goal
+use Rattle.page_walk.proofs.rows.sort_outcomes.Given as goal
 
 abbrev pub invariant-loop-outcome : goal.invariant-loop-outcome
 invariant-loop-outcome l =

@@ -1,6 +1,6 @@
 use Rattle.std.proofs.Common.{ap, sym, ◌∙◌, length, refl}
 use Rattle.page_walk.proofs.Sorting.{sorting_start, sorting_more}
-use Rattle.page_walk.proofs.rows.sort_out.Goals as goal
+use Rattle.page_walk.proofs.rows.sort_outcomes.Goals as goal
 
 pub loop-outcome-init : goal.loop-outcome-init
 loop-outcome-init c =

@@ -2,7 +2,7 @@ use Rattle.std.proofs.Common.{rules}
 use Rattle.page_access.specs.Files.{file_of}
 use Rattle.page_walk.proofs.Taken.{table_told}
 use Rattle.page_walk.proofs.Witness.{evidence_told}
-use Rattle.page_walk.proofs.cells.cells_of.Goals as goal
+use Rattle.page_walk.proofs.cells.cells_with.Goals as goal
 
 pub returns-clause-value : goal.returns-clause-value
 returns-clause-value g c = search rules

@@ -119,6 +119,12 @@ stepping_start s geo k xs m cached = record {
   value = always_told (λ all. in_turn (k.give all) k.taken xs (unused m.table) ≡ in_turn (k.give all) k.taken xs (unused m.table)) (s.bytes m.src) (λ all. refl);
 }
 
+-- the same where nothing is done yet
+pub stepping_begins : {S A X : Type 0} (s : source.Ghosts S) (geo : Geometry) (k : Steps A X) (xs : List A) (m : Moment S)
+    (done : List X) → done ≡ [] → IsCacheOf (s.bytes m.src) geo m.cache → Stepping s geo k xs xs m m done
+stepping_begins {S} {A} {X} s geo k xs m done none cached =
+    subst (λ (ds : List X). Stepping s geo k xs xs m m ds) (sym none) (stepping_start s geo k xs m cached)
+
 times_more : (k n : ℕ) → k * n + k ≡ k * (n + 1)
 times_more k n = grind arith
 
@@ -146,9 +152,11 @@ stepping_more {S} {A} {X} {s = s} {geo} {k} {xs} {left} {first} {now} {done} now
           (k.reads * length done) k.reads told was.read step.read);
       full = λ all.
           let before = was.full all in
-          let after = step.full before.0 in
-          (after.0, reads_more (s.bytes first.src) (s.bytes now.src) geo first.table now.table now'.table (s.reads first.src) (s.reads now.src) (s.reads now'.src)
-              0 0 told before.1 after.1);
+          let after = step.full before.0 in (
+            after.0,
+            reads_more (s.bytes first.src) (s.bytes now.src) geo first.table now.table now'.table (s.reads first.src) (s.reads now.src) (s.reads now'.src)
+                0 0 told before.1 after.1,
+          );
       value = both_told
           (λ all. done ++ in_turn (k.give all) k.taken left (unused now.table) ≡ in_turn (k.give all) k.taken xs (unused first.table))
           (λ all. x ≡ k.give all a (unused now.table))
@@ -186,9 +194,11 @@ pub stepping_full : {S A X : Type 0} {s : source.Ghosts S} {geo : Geometry} {k :
     → HasAll first.cache → HasAll c × ReadsEach (s.bytes first.src) geo first.table new (s.reads first.src) n more
 stepping_full {s = s} {geo} {first = first} {now} c new n more was step all =
     let before = was.full all in
-    let after = step before.0 in
-    (after.0, reads_weaker (s.bytes first.src) geo first.table new (s.reads first.src) n (0 + more) more (omega arith)
-        (reads_more (s.bytes first.src) (s.bytes now.src) geo first.table now.table new (s.reads first.src) (s.reads now.src) n 0 more was.kept.told before.1 after.1))
+    let after = step before.0 in (
+      after.0,
+      reads_weaker (s.bytes first.src) geo first.table new (s.reads first.src) n (0 + more) more (omega arith)
+          (reads_more (s.bytes first.src) (s.bytes now.src) geo first.table now.table new (s.reads first.src) (s.reads now.src) n 0 more was.kept.told before.1 after.1),
+    )
 
 all_mapped : {X Y : Type 0} (P : Y → Type 0) (f : X → Y) (xs : List X) → AllByRecursion (λ x. P (f x)) xs → AllByRecursion P (map f xs)
 all_mapped P f [] all = tt

@@ -52,7 +52,10 @@ fn sort_one(
 }
 
 /// Appends the cells that are read, and notes the others.
-pub fn sort_outcomes(outcomes: Vec<CellOutcome>, to: &mut Vec<TakenCell>) -> Result<PageNotes, AllocError>
+pub fn sort_outcomes(
+    outcomes: Vec<CellOutcome>,
+    to: &mut Vec<TakenCell>,
+) -> Result<PageNotes, AllocError>
     requires { length outcomes.items ≤ 32768 }
     ensures rows { OnOk result (to.new.items ≡ to.old.items ++ taken_in outcomes.items) }
     ensures notes { IfOk result (λ n. n ≡ notes_of (map outcome_of outcomes.items)) }

@@ -108,16 +108,7 @@ pub fn read_turns<S: Source>(
     let buffer = bytes.as_mut_slice();
     let mut accepted = Accepted::new(alloc, geo.usable)?;
     for page in pages {
-        let turn = turn_page(
-            alloc,
-            src,
-            geo,
-            cache,
-            table,
-            *page,
-            buffer,
-            &mut accepted,
-        )?;
+        let turn = turn_page(alloc, src, geo, cache, table, *page, buffer, &mut accepted)?;
         turns.push(turn)?;
     }
     Ok(turns)

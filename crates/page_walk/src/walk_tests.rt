@@ -38,15 +38,7 @@ fn walk(
     table.move_to_back(2, list);
     let kind = Kind::Table;
     let found = walk_tree(
-        alloc,
-        &mut src,
-        &geo,
-        &mut cache,
-        &kinds,
-        &mut table,
-        root,
-        kind,
-        2,
+        alloc, &mut src, &geo, &mut cache, &kinds, &mut table, root, kind, 2,
     )?;
     let lists = [table.list_of(1), table.list_of(2), table.list_of(3)];
     Ok((found, lists))

@@ -1,12 +1,18 @@
-use Rattle.std.proofs.Common.{◌≡◌, ℕ, ◌+◌, ◌*◌, ◌∷◌, [], ◌∙◌, ap, length, map, drop, get_or, subst, arith, length-drop}
-use Rattle.std.proofs.lemmas.List.{drop_all, drop_more, length-map, map-append}
+use Rattle.std.proofs.Common.{◌≡◌, ℕ, false, ◌+◌, ◌*◌, ◌∷◌, [], ◌∙◌, ap, length, map, drop, get_or, subst, arith, length-drop}
+use Rattle.std.proofs.lemmas.List.{drop_all, drop_more, length-map, length-replicate, map-append}
 use Rattle.page_access.specs.Cache.{HasAll}
 use Rattle.page_access.proofs.Keeps.{not_failed}
 use Rattle.page_lists.proofs.Uses.{Moves-append}
 use Rattle.page_walk.specs.InTurn.{turn_of}
 use Rattle.page_walk.specs.Turns.{ReadsEach}
-use Rattle.page_walk.proofs.InTurn.{at_err, reads_weaker, stepping_more, stepping_value, stepping_reads, stepping_full}
+use Rattle.page_walk.proofs.InTurn.{at_err, reads_weaker, stepping_more, stepping_begins, stepping_value, stepping_reads, stepping_full}
 use Rattle.page_walk.proofs.turns.read_turns.Goals as goal
+
+pub loop-page-init : goal.loop-page-init
+loop-page-init g c = record {
+  marks = ap length c.in_ok-accepted.ensures ∙ length-replicate c.args.geo.now.usable false;
+  stepping = stepping_begins _ _ _ _ _ _ (ap (map turn_of) c.in_ok-turns.ensures.items) c.requires.cached;
+}
 
 pub loop-page-preserved : goal.loop-page-preserved
 loop-page-preserved g c = record {
@@ -61,8 +67,11 @@ returns-in_err-push-clause-full g c =
     c.turn_page.new.table (g.S.Source.reads c.args.src.now) (g.S.Source.reads c.turn_page.new.src) n) c.from_residual-in_err-push.result 0 1
     c.from_residual-in_err-push.ensures.0
     (stepping_full c.turn_page.new.cache c.turn_page.new.table (g.S.Source.reads c.turn_page.new.src) 1 c.loop-page.invariant.stepping
-    (λ all. let step = c.in_ok-turn.ensures.full all in (step.0, reads_weaker (g.S.Source.bytes c.loop-page.src) c.args.geo.now c.loop-page.table c.turn_page.new.table
-    (g.S.Source.reads c.loop-page.src) (g.S.Source.reads c.turn_page.new.src) 0 1 (omega arith) step.1)))
+    (λ all. let step = c.in_ok-turn.ensures.full all in (
+      step.0,
+      reads_weaker (g.S.Source.bytes c.loop-page.src) c.args.geo.now c.loop-page.table c.turn_page.new.table
+          (g.S.Source.reads c.loop-page.src) (g.S.Source.reads c.turn_page.new.src) 0 1 (omega arith) step.1,
+    )))
 
 pub returns-clause-value : goal.returns-clause-value
 returns-clause-value g c = stepping_value c.loop-page.invariant.stepping (drop_all c.loop-page.page-index c.args.pages.now (omega arith))

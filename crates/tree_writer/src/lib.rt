@@ -1,0 +1,11 @@
+//! The pages of a tree, from its entries: which cells stand on which page, and the bytes of each page
+//! (docs/FORMAT.md, "Layout of a written file").
+#![tactic(auto)]
+
+mod entries;
+mod groups;
+mod numbering;
+mod sizes;
+
+pub use entries::Entries;
+pub use numbering::Numbering;

@@ -77,9 +77,16 @@ unfoldable pub over_count : ℕ → Kind → Entry → ℕ
 over_count usable kind e =
     (length e.bytes - kept_of usable kind e.bytes + (usable - 5)) / (usable - 4)
 
+abbrev pub item_overs : ℕ → Kind → Item → ℕ
+item_overs usable kind x = over_count usable kind x.entry
+
+-- the number of overflow pages of cells
+abbrev pub overs : ℕ → Kind → List Item → ℕ
+overs usable kind items = sum_by (item_overs usable kind) items
+
 -- the number of pages that a page of a tree and the overflow pages of its cells are
 abbrev pub width_of : ℕ → Kind → List Item → ℕ
-width_of usable kind items = suc (sum_by (λ (x : Item). over_count usable kind x.entry) items)
+width_of usable kind items = suc (overs usable kind items)
 
 -- an overflow page: the number of the next one, or 0 on the last, and the bytes that it holds
 abbrev pub over_page : ℕ → (ℕ → ℕ) → ℕ → Bool → List ℕ → List ℕ

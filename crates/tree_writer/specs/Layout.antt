@@ -1,5 +1,5 @@
 -- The bytes of a tree's pages (docs/FORMAT.md, "Layout of a written file").
-use Rattle.std.specs.Prelude.{ℕ, ◌+◌, if◌then◌else◌, List, [], ◌∷◌, ◌++◌, map, sum_by}
+use Rattle.std.specs.Prelude.{ℕ, Bool, ◌+◌, if◌then◌else◌, List, [], ◌∷◌, ◌++◌, map, sum_by}
 use Rattle.byteorder.specs.Endian.{big_bytes}
 use Rattle.cell_reader.specs.declared.shapes.Kind.{Kind}
 use Rattle.cell_reader.specs.declared.shapes.Kind.TheVariants.{Table, Index}
@@ -8,11 +8,20 @@ use Rattle.tree_writer.specs.Cells.{cell_bytes, chains_from, laid_from, width_of
 use Rattle.tree_writer.specs.Page.{page_bytes, type_byte}
 use Rattle.tree_writer.specs.Levels.{Sheet, pages_in, schema_sheets, schema_top, tree_sheets}
 
+-- the cells of a page, where its overflow pages begin at index k
+abbrev pub cells_for : ℕ → Kind → Bool → (ℕ → ℕ) → ℕ → List Item → List (List ℕ)
+cells_for usable kind leaf number k items =
+    map (cell_bytes usable kind leaf) (laid_from usable kind number k items)
+
+-- the right-most pointer, on an interior page
+abbrev pub right_part : Bool → (ℕ → ℕ) → ℕ → List ℕ
+right_part leaf number right = if leaf then [] else big_bytes 4 (number right)
+
 -- the bytes of a page behind `front`, where its overflow pages begin at index k
 abbrev pub sheet_page : List ℕ → ℕ → Kind → (ℕ → ℕ) → ℕ → Sheet → List ℕ
 sheet_page front usable kind number k s = page_bytes front (type_byte kind s.leaf) usable
-    (map (cell_bytes usable kind s.leaf) (laid_from usable kind number k s.items))
-    (if s.leaf then [] else big_bytes 4 (number s.right))
+    (cells_for usable kind s.leaf number k s.items)
+    (right_part s.leaf number s.right)
 
 -- a page of index k, and the overflow pages of its cells behind it
 abbrev pub sheet_pages : ℕ → Kind → (ℕ → ℕ) → ℕ → Sheet → List (List ℕ)

@@ -6,3 +6,4 @@ pub mod Levels
 pub mod Numbers
 pub mod Page
 pub mod Plan
+pub mod Planned

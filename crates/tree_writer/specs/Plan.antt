@@ -5,7 +5,8 @@ use Rattle.cell_reader.specs.declared.shapes.Kind.TheVariants.{Table, Index}
 use Rattle.cell_reader.specs.Inside.{has_payload}
 use Rattle.tree_writer.specs.declared.sizes.Size.{Size}
 use Rattle.tree_writer.specs.declared.groups.Span.{Span}
-use Rattle.tree_writer.specs.Cells.{cell_len, over_count, slot_len}
+use Rattle.tree_writer.specs.declared.cells.Cell.{Cell}
+use Rattle.tree_writer.specs.Cells.{Laid, cell_len, over_count, slot_len}
 use Rattle.tree_writer.specs.Entry.{Entry, Item, entry_at, key_of}
 use Rattle.tree_writer.specs.Groups.{Cut}
 
@@ -56,3 +57,11 @@ pub record AreSizes (room : ℕ) (sizes : List Size) : Type 0 where
   pub few : length sizes < 2 ^ 31
   pub fit : (i : ℕ) → i < length sizes → (slice_index_or sizes i no_size).need ≤ room
   pub pages : pages_for sizes ≤ 2 ^ 31
+
+-- a cell with its payload
+abbrev pub laid_by : Cell → List ℕ → Laid
+laid_by cell body = record { child = cell.child; rowid = cell.rowid; body = body; next = cell.next }
+
+-- the bytes of a page that a cell takes
+abbrev pub slot_for : ℕ → Kind → Bool → Item → ℕ
+slot_for usable kind leaf x = slot_len (cell_len usable kind leaf x.entry)

@@ -2,10 +2,18 @@
 //! (docs/FORMAT.md, "Layout of a written file").
 #![tactic(auto)]
 
+mod bytes;
+mod cells;
 mod entries;
 mod groups;
 mod numbering;
+mod plans;
+mod sheets;
 mod sizes;
 
 pub use entries::Entries;
 pub use numbering::Numbering;
+pub use plans::TreePlan;
+
+#[cfg(test)]
+mod tests;

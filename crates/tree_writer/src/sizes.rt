@@ -94,7 +94,7 @@ fn numbers_size(kind: Kind, leaf: bool, total: u64, rowid: Option<i64>) -> u64
 }
 
 // Bytes of a cell's payload, of which an interior table page's cell has none.
-fn payload_size<N: Entries>(kind: Kind, leaf: bool, entries: &N, i: u32) -> u64
+pub(crate) fn payload_size<N: Entries>(kind: Kind, leaf: bool, entries: &N, i: u32) -> u64
     requires { i < length (N.entries entries.now) }
     ensures { result ≡ length (part_of kind leaf (entry_at (N.entries entries.now) i)).bytes }
 {

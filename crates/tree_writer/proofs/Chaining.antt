@@ -21,7 +21,7 @@ pub length-over : (usable : ℕ) (number : ℕ → ℕ) (k n : ℕ) (bytes : Lis
 length-over usable number k zero bytes = refl
 length-over usable number k (suc n) bytes = ap suc (length-over usable number (k + 1) n (drop (usable - 4) bytes))
 
-small_div : (q d : ℕ) → q * d < d → q ≡ 0
+pub small_div : (q d : ℕ) → q * d < d → q ≡ 0
 small_div zero d lt = refl
 small_div (suc q) d lt = absurd (omega arith)
 

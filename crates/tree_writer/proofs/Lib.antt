@@ -4,3 +4,8 @@ pub mod Items
 pub mod Laying
 pub mod Lens
 pub mod Chaining
+pub mod Cuts
+pub mod Rising
+pub mod Needs
+pub mod Adding
+pub mod Raising

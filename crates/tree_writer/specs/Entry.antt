@@ -63,3 +63,7 @@ RowidsRise low (e ∷ es) = (z : ℤ) × (e.rowid ≡ Some z) × IsBelow low z �
 pub record AreEntries (es : List Entry) : Type 0 where
   pub some : AllByRecursion HasBytes es
   pub load : sum_by weight es ≤ 2 ^ 35
+
+-- the entries of an index have no rowid of their own
+abbrev pub HaveNoRowids : List Entry → Type 0
+HaveNoRowids es = AllByRecursion (λ (e : Entry). e.rowid ≡ None) es

@@ -49,3 +49,19 @@ cuts need room held left [] = record { firsts = []; last = held }
 cuts need room held left (x ∷ xs) =
     if nat_le (need x) left then cuts need room (held ++ x ∷ []) (left - need x) xs
     else past held x xs (cuts need room [] room xs)
+
+-- the cells of a level in order, with the separators between
+abbrev pub flat_from : {X : Type 0} → List (List X × X) → List X → List X
+flat_from [] last = last
+flat_from (f ∷ fs) last = f.0 ++ (f.1 ∷ flat_from fs last)
+
+abbrev pub flat : {X : Type 0} → Cut X → List X
+flat cut = flat_from cut.firsts cut.last
+
+-- the cells of a level in order, without the separators
+abbrev pub joined_from : {X : Type 0} → List (List X × X) → List X → List X
+joined_from [] last = last
+joined_from (f ∷ fs) last = f.0 ++ joined_from fs last
+
+abbrev pub joined : {X : Type 0} → Cut X → List X
+joined cut = joined_from cut.firsts cut.last

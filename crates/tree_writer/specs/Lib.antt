@@ -7,3 +7,4 @@ pub mod Numbers
 pub mod Page
 pub mod Plan
 pub mod Planned
+pub mod Trees

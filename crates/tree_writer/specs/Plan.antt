@@ -6,7 +6,7 @@ use Rattle.cell_reader.specs.Inside.{has_payload}
 use Rattle.tree_writer.specs.declared.sizes.Size.{Size}
 use Rattle.tree_writer.specs.declared.groups.Span.{Span}
 use Rattle.tree_writer.specs.declared.cells.Cell.{Cell}
-use Rattle.tree_writer.specs.Cells.{Laid, cell_len, over_count, slot_len}
+use Rattle.tree_writer.specs.Cells.{Laid, cell_len, over_count, slot_len, width_of}
 use Rattle.tree_writer.specs.Entry.{Entry, Item, entry_at, key_of}
 use Rattle.tree_writer.specs.Groups.{Cut}
 
@@ -65,3 +65,18 @@ laid_by cell body = record { child = cell.child; rowid = cell.rowid; body = body
 -- the bytes of a page that a cell takes
 abbrev pub slot_for : ℕ → Kind → Bool → Item → ℕ
 slot_for usable kind leaf x = slot_len (cell_len usable kind leaf x.entry)
+
+-- which cells the groups of a cut of cells are
+abbrev pub item_span : ℕ → Kind → ℕ → List Item → Span
+item_span usable kind first group =
+    record { first = first; cells = length group; pages = width_of usable kind group }
+
+abbrev pub item_spans : ℕ → Kind → ℕ → ℕ → List (List Item × Item) → List Item → List Span
+item_spans usable kind gap first [] last = item_span usable kind first last ∷ []
+item_spans usable kind gap first (f ∷ fs) last =
+    item_span usable kind first f.0 ∷ item_spans usable kind gap (first + length f.0 + gap) fs last
+
+-- cells between two leaves that stand in neither: of an index's leaves one
+abbrev pub gap_of : Kind → ℕ
+gap_of Table = 0
+gap_of Index = 1

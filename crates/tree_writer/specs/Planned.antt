@@ -1,11 +1,14 @@
 -- What the plan of a tree says of its pages (docs/FORMAT.md, "Layout of a written file").
-use Rattle.std.specs.Prelude.{◌≡◌, ◌≤◌, ◌<◌, ℕ, ◌+◌, ◌-◌, ◌^◌, Bool, true, false, if◌then◌else◌, List, length, map, take, drop, sum_by, slice_index_or, Option, Some, None}
+use Rattle.std.specs.Prelude.{◌≡◌, ◌≤◌, ◌<◌, ℕ, ◌+◌, ◌-◌, ◌^◌, Bool, true, false, if◌then◌else◌, List, [], ◌∷◌, ◌++◌, length, map, take, drop, sum_by, slice_index_or, Option, Some, None}
+use Rattle.std.specs.List.{AllByRecursion}
 use Rattle.cell_reader.specs.declared.shapes.Kind.{Kind}
 use Rattle.tree_writer.specs.declared.plans.PagePlan.{PagePlan}
+use Rattle.tree_writer.specs.declared.groups.Span.{Span}
+use Rattle.cell_reader.specs.declared.shapes.Kind.TheVariants.{Table, Index}
 use Rattle.tree_writer.specs.declared.sheets.Chain.{Chain}
-use Rattle.tree_writer.specs.Cells.{over_count, overs}
+use Rattle.tree_writer.specs.Cells.{over_count, overs, width_of}
 use Rattle.tree_writer.specs.Entry.{Entry, HasBytes, Item, entry_at, leaf_item, no_item}
-use Rattle.tree_writer.specs.Levels.{Sheet, needs, room_in}
+use Rattle.tree_writer.specs.Levels.{Line, Sheet, cons_line, needs, room_in}
 use Rattle.tree_writer.specs.Plan.{part_of}
 
 abbrev pub no_page : PagePlan
@@ -71,3 +74,67 @@ pub record IsChain (usable : ℕ) (kind : Kind) (es : List Entry) (k : ℕ) (c :
   pub low : c.first ≤ k
   pub high : k < c.first + c.count
   pub many : c.count ≡ over_count usable kind (entry_at es c.entry)
+
+-- the line over these pages, whose level ends before index `next`
+abbrev pub line_tail : Kind → List Entry → ℕ → PagePlan → List PagePlan → Line
+line_tail kind es next p [] = record { cells = []; right = p.index; next = next }
+line_tail kind es next p (q ∷ qs) = cons_line (inner_item kind es p) (line_tail kind es next q qs)
+
+abbrev pub line_of : Kind → List Entry → ℕ → List PagePlan → Line
+line_of kind es next [] = record { cells = []; right = 0; next = next }
+line_of kind es next (p ∷ ps) = line_tail kind es next p ps
+
+-- the pages of a level over those from `base` on, the first of index k
+abbrev pub level_plans : List PagePlan → ℕ → ℕ → List Span → List PagePlan
+level_plans plans base k [] = []
+level_plans plans base k (s ∷ ss) = record {
+  index = k;
+  first = base + s.first;
+  cells = s.cells;
+  behind = (plan_at plans (base + s.first + s.cells)).behind;
+} ∷ level_plans plans base (k + s.pages) ss
+
+-- the entry that separates a leaf from the next one: of a table its last, of an index the one behind it
+abbrev pub leaf_behind : Kind → ℕ → ℕ
+leaf_behind Table end = end - 1
+leaf_behind Index end = end
+
+-- the leaves, the first of index k
+abbrev pub leaf_plans : Kind → ℕ → List Span → List PagePlan
+leaf_plans kind k [] = []
+leaf_plans kind k (s ∷ ss) = record {
+  index = k;
+  first = s.first;
+  cells = s.cells;
+  behind = leaf_behind kind (s.first + s.cells);
+} ∷ leaf_plans kind (k + s.pages) ss
+
+abbrev pub span_pages : Span → ℕ
+span_pages s = s.pages
+
+-- the pages that a plan says, of which the first are leaves
+abbrev pub shown : Kind → List Entry → ℕ → List PagePlan → List Sheet
+shown kind es leaves plans = map (sheet_for kind es plans true) (take leaves plans)
+    ++ map (sheet_for kind es plans false) (drop leaves plans)
+
+abbrev pub index_of : PagePlan → ℕ
+index_of p = p.index
+
+-- the indexes of pages, the first of which is k
+abbrev pub starts_from : ℕ → Kind → ℕ → List Sheet → List ℕ
+starts_from usable kind k [] = []
+starts_from usable kind k (s ∷ ss) = k ∷ starts_from usable kind (k + width_of usable kind s.items) ss
+
+abbrev pub no_span : Span
+no_span = record { first = 0; cells = 0; pages = 0 }
+
+abbrev pub span_at : List Span → ℕ → Span
+span_at spans i = slice_index_or spans i no_span
+
+-- the pages of a plan are these: what they say, their indexes, and what they speak of is there
+pub record IsLaid (usable : ℕ) (kind : Kind) (es : List Entry) (leaves : ℕ) (plans : List PagePlan) (sheets : List Sheet) : Type 0 where
+  pub sheets_are : shown kind es leaves plans ≡ sheets
+  pub starts : map index_of plans ≡ starts_from usable kind 0 sheets
+  pub leaves_there : AllByRecursion (AreThere es plans true) (take leaves plans)
+  pub inner_there : AllByRecursion (AreThere es plans false) (drop leaves plans)
+  pub least : leaves ≤ length plans

@@ -1,8 +1,12 @@
 //! Which entries stand on which page of a tree.
 
-ghost use Rattle.std.specs.Prelude.{◌≡◌, ◌≤◌, ◌<◌, ◌+◌, ◌-◌, ◌^◌, ℕ, List, [], Some, IfOk, length, take, slice_index_or, if◌then◌else◌};
-ghost use Rattle.tree_writer.specs.Entry.{AreEntries, Entry};
+ghost use Rattle.std.specs.Prelude.{◌≡◌, ◌≤◌, ◌<◌, ◌+◌, ◌-◌, ◌^◌, ◌++◌, ℕ, List, [], Some, None, true, false, IfOk, OnOk, length, map, take, sum_by, slice_index_or, if◌then◌else◌};
+ghost use Rattle.tree_writer.specs.Entry.{AreEntries, Entry, HaveNoRowids, RowidsRise, leaf_item};
+ghost use Rattle.tree_writer.specs.Levels.{pages_in};
 ghost use Rattle.tree_writer.specs.Numbers.{number_of};
+ghost use Rattle.tree_writer.specs.Plan.{need_in, overs_in, size_item};
+ghost use Rattle.tree_writer.specs.Planned.{inner_item, leaf_behind, leaf_plans, level_plans, plan_at, span_at, span_pages};
+ghost use Rattle.tree_writer.specs.Trees.{IsRaised, first_spans, IsSchemaPlan, IsTreePlan};
 
 use crate::entries::Entries;
 use crate::groups::{Span, cut_spans, leaf_spans};
@@ -36,6 +40,15 @@ pub struct TreePlan {
     count: u32,
 }
 
+/// The highest pages of a plan: the number of leaves, the first page of the highest level, and the
+/// index behind all pages.
+#[derive(Clone, Copy, Debug)]
+pub struct Top {
+    pub leaves: u32,
+    pub base: u32,
+    pub index: u32,
+}
+
 // What each entry takes on a leaf.
 fn leaf_sizes<N: Entries>(
     alloc: Global,
@@ -43,6 +56,11 @@ fn leaf_sizes<N: Entries>(
     kind: Kind,
     entries: &N,
 ) -> Result<Vec<Size>, AllocError>
+    requires least { 512 ≤ usable }
+    requires most { usable ≤ 65536 }
+    requires entries { AreEntries (N.entries entries.now) }
+    ensures { IfOk result (λ v. v.items
+        ≡ map (size_item usable kind true) (map leaf_item (N.entries entries.now))) }
 {
     let mut sizes = Vec::new(alloc);
     for i in 0..entries.count() {
@@ -51,7 +69,7 @@ fn leaf_sizes<N: Entries>(
     Ok(sizes)
 }
 
-// What the cells of a level take that name the pages of the level below but its last.
+// What the cells of a level take that name pages of the level below.
 fn line_sizes<N: Entries>(
     alloc: Global,
     usable: u32,
@@ -59,9 +77,16 @@ fn line_sizes<N: Entries>(
     entries: &N,
     below: &[PagePlan],
 ) -> Result<Vec<Size>, AllocError>
+    requires least { 512 ≤ usable }
+    requires most { usable ≤ 65536 }
+    requires entries { AreEntries (N.entries entries.now) }
+    requires there { (i : ℕ) → i < length below.now
+        → (plan_at below.now i).behind < length (N.entries entries.now) }
+    ensures { IfOk result (λ v. v.items
+        ≡ map (size_item usable kind false) (map (inner_item kind (N.entries entries.now)) below.now)) }
 {
     let mut sizes = Vec::new(alloc);
-    for page in &below[..below.len() - 1] {
+    for page in below {
         sizes.push(size_of(usable, kind, false, entries, page.behind))?;
     }
     Ok(sizes)
@@ -69,6 +94,8 @@ fn line_sizes<N: Entries>(
 
 // The bytes that cells take with their pointers.
 fn needs_of(sizes: &[Size]) -> u64
+    requires { length sizes.now < 2 ^ 31 }
+    ensures { result ≡ sum_by need_in sizes.now }
 {
     let mut needs = 0;
     for size in sizes {
@@ -77,21 +104,45 @@ fn needs_of(sizes: &[Size]) -> u64
     needs
 }
 
+// The overflow pages of cells.
+fn overs_in(sizes: &[Size]) -> u32
+    requires { sum_by overs_in sizes.now < 2 ^ 32 }
+    ensures { result ≡ sum_by overs_in sizes.now }
+{
+    let mut overs = 0;
+    for size in sizes {
+        overs += size.overs;
+    }
+    overs
+}
+
+// The entry that separates a leaf whose cells end before entry `end` from the next leaf.
+fn leaf_behind(kind: Kind, end: u32) -> u32
+    ensures { result ≡ leaf_behind kind end }
+{
+    match kind {
+        Kind::Table => end.saturating_sub(1),
+        Kind::Index => end,
+    }
+}
+
 // Adds the leaves, and gives the index behind them.
 fn add_leaves(pages: &mut Vec<PagePlan>, kind: Kind, spans: &[Span]) -> Result<u32, AllocError>
+    requires few { sum_by span_pages spans.now < 2 ^ 32 }
+    requires ends { (i : ℕ) → i < length spans.now → (span_at spans.now i).first
+        + (span_at spans.now i).cells < 2 ^ 32 }
+    ensures pages { OnOk result (pages.new.items
+        ≡ pages.old.items ++ leaf_plans kind 0 spans.now) }
+    ensures index { IfOk result (λ n. n ≡ sum_by span_pages spans.now) }
 {
     let mut index = 0;
     for span in spans {
         let end = span.first + span.cells;
-        let behind = match kind {
-            Kind::Table => end.saturating_sub(1),
-            Kind::Index => end,
-        };
         pages.push(PagePlan {
             index,
             first: span.first,
             cells: span.cells,
-            behind,
+            behind: leaf_behind(kind, end),
         })?;
         index += span.pages;
     }
@@ -102,18 +153,25 @@ fn add_leaves(pages: &mut Vec<PagePlan>, kind: Kind, spans: &[Span]) -> Result<u
 // behind it.
 fn add_level(
     pages: &mut Vec<PagePlan>,
-    base: usize,
+    base: u32,
     spans: &[Span],
     index: u32,
 ) -> Result<u32, AllocError>
+    requires few { index + sum_by span_pages spans.now < 2 ^ 32 }
+    requires small { length pages.old.items < 2 ^ 32 }
+    requires ends { (i : ℕ) → i < length spans.now → base + (span_at spans.now i).first
+        + (span_at spans.now i).cells < length pages.old.items }
+    ensures pages { OnOk result (pages.new.items
+        ≡ pages.old.items ++ level_plans pages.old.items base index spans.now) }
+    ensures index { IfOk result (λ n. n ≡ index + sum_by span_pages spans.now) }
 {
     let mut index = index;
     for span in spans {
-        let first = base + span.first as usize;
-        let behind = pages[first + span.cells as usize].behind;
+        let first = base + span.first;
+        let behind = pages[(first + span.cells) as usize].behind;
         pages.push(PagePlan {
             index,
-            first: first as u32,
+            first,
             cells: span.cells,
             behind,
         })?;
@@ -122,75 +180,123 @@ fn add_level(
     Ok(index)
 }
 
-// The pages of a tree over these leaves, up to a level whose line takes at most `top` bytes.
-fn plan_over<N: Entries>(
+// Which entries stand on which leaf.
+fn first_spans<N: Entries>(
+    alloc: Global,
+    usable: u32,
+    kind: Kind,
+    entries: &N,
+    sizes: &[Size],
+) -> Result<Vec<Span>, AllocError>
+    requires least { 512 ≤ usable }
+    requires most { usable ≤ 65536 }
+    requires entries { AreEntries (N.entries entries.now) }
+    requires sizes { sizes.now
+        ≡ map (size_item usable kind true) (map leaf_item (N.entries entries.now)) }
+    ensures { IfOk result (λ v. v.items ≡ first_spans usable kind (N.entries entries.now)) }
+{
+    let _count = entries.count();
+    match kind {
+        Kind::Table => leaf_spans(alloc, sizes, usable - 8),
+        Kind::Index => cut_spans(alloc, sizes, usable - 8),
+    }
+}
+
+// Plans the pages of a tree whose entries take these sizes on its leaves, up to a level whose line
+// takes at most `top` bytes.
+fn raise<N: Entries>(
     alloc: Global,
     usable: u32,
     kind: Kind,
     entries: &N,
     sizes: &[Size],
     top: u32,
-) -> Result<TreePlan, AllocError>
+    pages: &mut Vec<PagePlan>,
+) -> Result<Top, AllocError>
+    requires least { 512 ≤ usable }
+    requires most { usable ≤ 65536 }
+    requires entries { AreEntries (N.entries entries.now) }
+    requires sizes { sizes.now
+        ≡ map (size_item usable kind true) (map leaf_item (N.entries entries.now)) }
+    requires none { pages.old.items ≡ [] }
+    ensures { IfOk result (IsRaised usable kind top (N.entries entries.now) pages.new.items) }
 {
-    let spans = match kind {
-        Kind::Table => leaf_spans(alloc, sizes, usable - 8)?,
-        Kind::Index => cut_spans(alloc, sizes, usable - 8)?,
-    };
-    let mut pages = Vec::new(alloc);
-    let mut index = add_leaves(&mut pages, kind, &spans)?;
+    let spans = first_spans(alloc, usable, kind, entries, sizes)?;
+    let mut index = add_leaves(pages, kind, spans.as_slice())?;
     let leaves = pages.len() as u32;
     let mut base = 0;
     'levels: loop {
-        let line = line_sizes(alloc, usable, kind, entries, &pages[base..])?;
-        if needs_of(&line) <= u64::from(top) {
+        let end = pages.len() - 1;
+        let below = &pages.as_slice()[base as usize..end];
+        let line = line_sizes(alloc, usable, kind, entries, below)?;
+        if needs_of(line.as_slice()) <= u64::from(top) {
             break;
         }
-        let spans = cut_spans(alloc, &line, usable - 12)?;
-        let next = pages.len();
-        index = add_level(&mut pages, base, &spans, index)?;
-        base = next;
+        let spans = cut_spans(alloc, line.as_slice(), usable - 12)?;
+        index = add_level(pages, base, spans.as_slice(), index)?;
+        base = end as u32 + 1;
     }
-    let cells = pages.len() - base - 1;
-    Ok(TreePlan {
-        usable,
-        kind,
+    Ok(Top {
         leaves,
-        pages,
-        first_page: if top == 0 {
-            None
-        } else {
-            Some(PagePlan {
-                index,
-                first: base as u32,
-                cells: cells as u32,
-                behind: 0,
-            })
-        },
-        count: if top == 0 { index } else { index + 1 },
+        base,
+        index,
     })
 }
 
 impl TreePlan {
-    /// The plan of a table's tree.
+    // The plan of a tree that does not begin on page 1.
+    fn of_kind<N: Entries>(
+        alloc: Global,
+        usable: u32,
+        kind: Kind,
+        entries: &N,
+    ) -> Result<TreePlan, AllocError>
+        requires least { 512 ≤ usable }
+        requires most { usable ≤ 65536 }
+        requires entries { AreEntries (N.entries entries.now) }
+        ensures { IfOk result (IsTreePlan usable kind (N.entries entries.now)) }
+    {
+        let sizes = leaf_sizes(alloc, usable, kind, entries)?;
+        let mut pages = Vec::new(alloc);
+        let top = raise(alloc, usable, kind, entries, &sizes, 0, &mut pages)?;
+        Ok(TreePlan {
+            usable,
+            kind,
+            leaves: top.leaves,
+            pages,
+            first_page: None,
+            count: top.index,
+        })
+    }
+
+    /// The plan of a table's tree, on pages of `usable` bytes.
     pub fn table<N: Entries>(
         alloc: Global,
         usable: u32,
         entries: &N,
     ) -> Result<TreePlan, AllocError>
+        requires least { 512 ≤ usable }
+        requires most { usable ≤ 65536 }
+        requires entries { AreEntries (N.entries entries.now) }
+        requires rowids { RowidsRise None (N.entries entries.now) }
+        ensures { IfOk result (IsTreePlan usable Kind.Table (N.entries entries.now)) }
     {
-        let sizes = leaf_sizes(alloc, usable, Kind::Table, entries)?;
-        plan_over(alloc, usable, Kind::Table, entries, &sizes, 0)
+        TreePlan::of_kind(alloc, usable, Kind::Table, entries)
     }
 
-    /// The plan of an index's tree.
+    /// The plan of an index's tree, on pages of `usable` bytes.
     pub fn index<N: Entries>(
         alloc: Global,
         usable: u32,
         entries: &N,
     ) -> Result<TreePlan, AllocError>
+        requires least { 512 ≤ usable }
+        requires most { usable ≤ 65536 }
+        requires entries { AreEntries (N.entries entries.now) }
+        requires rowids { HaveNoRowids (N.entries entries.now) }
+        ensures { IfOk result (IsTreePlan usable Kind.Index (N.entries entries.now)) }
     {
-        let sizes = leaf_sizes(alloc, usable, Kind::Index, entries)?;
-        plan_over(alloc, usable, Kind::Index, entries, &sizes, 0)
+        TreePlan::of_kind(alloc, usable, Kind::Index, entries)
     }
 
     /// The plan of the schema's tree, whose root is page 1.
@@ -199,28 +305,45 @@ impl TreePlan {
         usable: u32,
         entries: &N,
     ) -> Result<TreePlan, AllocError>
+        requires least { 512 ≤ usable }
+        requires most { usable ≤ 65536 }
+        requires entries { AreEntries (N.entries entries.now) }
+        requires rowids { RowidsRise None (N.entries entries.now) }
+        ensures { IfOk result (IsSchemaPlan usable (N.entries entries.now)) }
     {
         let sizes = leaf_sizes(alloc, usable, Kind::Table, entries)?;
+        let mut pages = Vec::new(alloc);
         if needs_of(&sizes) <= u64::from(usable - 108) {
-            let mut count = 1;
-            for size in &sizes {
-                count += size.overs;
-            }
+            let page = PagePlan {
+                index: 0,
+                first: 0,
+                cells: sizes.len() as u32,
+                behind: 0,
+            };
             return Ok(TreePlan {
                 usable,
                 kind: Kind::Table,
                 leaves: 0,
-                pages: Vec::new(alloc),
-                first_page: Some(PagePlan {
-                    index: 0,
-                    first: 0,
-                    cells: sizes.len() as u32,
-                    behind: 0,
-                }),
-                count,
+                pages,
+                first_page: Some(page),
+                count: 1 + overs_in(&sizes),
             });
         }
-        plan_over(alloc, usable, Kind::Table, entries, &sizes, usable - 112)
+        let top = raise(alloc, usable, Kind::Table, entries, &sizes, usable - 112, &mut pages)?;
+        let page = PagePlan {
+            index: top.index,
+            first: top.base,
+            cells: pages.len() as u32 - top.base - 1,
+            behind: 0,
+        };
+        Ok(TreePlan {
+            usable,
+            kind: Kind::Table,
+            leaves: top.leaves,
+            pages,
+            first_page: Some(page),
+            count: 1 + top.index,
+        })
     }
 
     /// The number of pages, overflow pages among them.

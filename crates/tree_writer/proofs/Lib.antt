@@ -9,3 +9,4 @@ pub mod Rising
 pub mod Needs
 pub mod Adding
 pub mod Raising
+pub mod Planning

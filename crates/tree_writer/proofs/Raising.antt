@@ -18,10 +18,10 @@ use Rattle.tree_writer.specs.Entry.{AreEntries, Entry, Item, entry_at, key_item,
 use Rattle.tree_writer.specs.Groups.{Cut, cuts, flat_from, joined_from, leaves}
 use Rattle.tree_writer.specs.Levels.{Line, Sheet, cons_line, leaf_cut, leaf_line, level_cut, level_sheets, line_above, line_from, line_over, needs, pages_in, room_in, sheets_from, sheets_of, top_line, tree_line, tree_sheets}
 use Rattle.tree_writer.specs.Plan.{AreSizes, gap_of, item_span, item_spans, need_in, no_key, no_size, overs_in, pages_for, part_of, size_item, spans_of}
-use Rattle.tree_writer.specs.Planned.{AreThere, IsLaid, index_of, inner_item, items_of, leaf_behind, leaf_plans, level_plans, line_of, line_tail, no_page, plan_at, right_index, sheet_for, shown, span_at, span_pages, starts_from}
+use Rattle.tree_writer.specs.Planned.{AreThere, IsLaid, SheetFits, index_of, inner_item, items_of, leaf_behind, leaf_plans, level_plans, line_of, line_tail, no_page, plan_at, right_index, sheet_for, shown, span_at, span_pages, starts_from}
 use Rattle.tree_writer.specs.Trees.{IsRaised, first_spans}
 use Rattle.tree_writer.proofs.Lists.{at_end}
-use Rattle.tree_writer.proofs.Cuts.{Keyed, cuts_few, cuts_flat, cuts_same, leaves_few, leaves_joined, leaves_keyed, leaves_same, spans_cut}
+use Rattle.tree_writer.proofs.Cuts.{Keyed, cuts_few, cuts_fit, cuts_flat, cuts_same, leaves_few, leaves_fit, leaves_joined, leaves_keyed, leaves_same, spans_cut}
 use Rattle.tree_writer.proofs.Needs.{Few, few_entries, index_half, key_half, leaf_fits}
 use Rattle.tree_writer.proofs.Rising.{Shows, below, index_leaves, keyed_overs, level_overs, level_shown, line_len, line_next, line_overs, line_pages, pages_overs, sheets_len, table_leaves}
 
@@ -76,9 +76,9 @@ starts-append usable kind k (s ∷ ss) ys =
 -- a plan with a level more
 pub laid_more : (usable : ℕ) (kind : Kind) (es : List Entry) (leaves : ℕ) (plans more : List PagePlan) (sheets added : List Sheet) → IsLaid usable kind es leaves plans sheets
     → map (sheet_for kind es plans false) more ≡ added → AllByRecursion (AreThere es plans false) more
-    → map index_of more ≡ starts_from usable kind (pages_in usable kind sheets) added
+    → map index_of more ≡ starts_from usable kind (pages_in usable kind sheets) added → AllByRecursion (SheetFits usable kind) added
     → IsLaid usable kind es leaves (plans ++ more) (sheets ++ added)
-laid_more usable kind es leaves plans more sheets added l new there starts =
+laid_more usable kind es leaves plans more sheets added l new there starts fits =
     let front : take leaves (plans ++ more) ≡ take leaves plans = take-append-le leaves plans more l.least in
     let back : drop leaves (plans ++ more) ≡ drop leaves plans ++ more = drop-append-le leaves plans more l.least in
     record {
@@ -98,7 +98,15 @@ laid_more usable kind es leaves plans more sheets added l new there starts =
       inner_there = subst (AllByRecursion (AreThere es (plans ++ more) false)) (sym back)
         (all_append (AreThere es (plans ++ more) false) (drop leaves plans) more (all_kept es plans more false (drop leaves plans) l.inner_there) (all_kept es plans more false more there));
       least = omega (arith, l.least, length-append plans more);
+      fits = all_append (SheetFits usable kind) sheets added l.fits fits;
     }
+
+-- the pages of a level have room for their cells
+sheets_fit : (usable : ℕ) (kind : Kind) (leaf : Bool) (firsts : List (List Item × Item)) (last : List Item) (right : ℕ)
+    → AllByRecursion (λ (f : List Item × Item). sum_by (need_of usable kind leaf) f.0 ≤ room_in usable leaf) firsts → sum_by (need_of usable kind leaf) last ≤ room_in usable leaf
+    → AllByRecursion (SheetFits usable kind) (sheets_from leaf firsts last right)
+sheets_fit usable kind leaf [] last right all one = (one, tt)
+sheets_fit usable kind leaf (f ∷ fs) last right all one = (all.0, sheets_fit usable kind leaf fs last right all.1 one)
 
 -- ---- the line over pages
 
@@ -157,6 +165,7 @@ pub record NextLevel (usable : ℕ) (kind : Kind) (es : List Entry) (base index 
   pub shows : Shows usable kind es plans false index (level_plans plans base index (item_spans usable kind 1 0 cut.firsts cut.last)) cut.firsts cut.last line.right
   pub few : 2 * length cut.firsts + 1 ≤ length line.cells
   pub flat_is : flat_from cut.firsts cut.last ≡ line.cells
+  pub fits : AllByRecursion (SheetFits usable kind) (sheets_from false cut.firsts cut.last line.right)
 
 pub next_level : (usable : ℕ) (kind : Kind) (top : ℕ) (es : List Entry) (leaves base index : ℕ) (plans : List PagePlan) → 480 ≤ usable
     → (g : Grows usable kind top es leaves base index plans) → 1 ≤ length g.line.cells → NextLevel usable kind es base index plans g.line (level_cut usable kind g.line)
@@ -176,6 +185,9 @@ next_level usable kind top es leaves base index plans least g some =
           (λ j lt. g.behinds j (omega (arith, lt, length-map (drop base plans) (inner_item kind es), length-drop base plans))));
       few = let h = cuts_few (need_of usable kind false) (room_in usable false) [] (room_in usable false) g.line.cells tt half (omega arith) (omega (arith, some)) in omega (arith, h);
       flat_is = flat_is;
+      fits =
+        let f = cuts_fit (need_of usable kind false) (room_in usable false) [] (room_in usable false) g.line.cells (half_each (need_of usable kind false) (room_in usable false) g.line.cells half) (omega arith) in
+        sheets_fit usable kind false cut.firsts cut.last g.line.right f.firsts f.last;
     }
 
 -- a level more, where the line does not fit
@@ -215,7 +227,7 @@ grows_more usable kind top es leaves base index plans least g some full =
         ∙ ap (λ m. line_of kind es m news) (sym index_next) ∙ n.shows.line;
       enough = omega (arith, len_line, n.few, g.enough, s.1);
       laid = laid_more usable kind es leaves plans news g.sheets added g.laid n.shows.sheets n.shows.there
-        (n.shows.starts ∙ ap (λ m. starts_from usable kind m added) g.index_is);
+        (n.shows.starts ∙ ap (λ m. starts_from usable kind m added) g.index_is) n.fits;
       all = append_assoc g.sheets added (level_sheets usable kind top s.0 (line_from w index cut.firsts cut.last))
         ∙ sym (ap (λ (l : Line). g.sheets ++ (added ++ level_sheets usable kind top s.0 l)) above)
         ∙ sym (ap (λ (t : List Sheet). g.sheets ++ t) s.2) ∙ g.all;
@@ -235,6 +247,7 @@ pub record LeafLevel (usable : ℕ) (kind : Kind) (es : List Entry) (spans : Lis
   pub shows : (plans : List PagePlan) → Shows usable kind es plans true 0 (leaf_plans kind 0 spans) (leaf_cut usable kind es).firsts (leaf_cut usable kind es).last 0
   pub few : length (leaf_cut usable kind es).firsts ≤ length es
   pub overs_are : level_overs usable kind (leaf_cut usable kind es).firsts (leaf_cut usable kind es).last + overs usable kind (leaf_line usable kind es).cells ≡ overs usable kind (map leaf_item es)
+  pub fits : AllByRecursion (SheetFits usable kind) (sheets_of true (leaf_cut usable kind es) 0)
 
 all_items : (P : Item → Type 0) → ((e : Entry) → P (leaf_item e)) → (es : List Entry) → AllByRecursion P (map leaf_item es)
 all_items P h [] = tt
@@ -253,6 +266,10 @@ leaf_level usable Table es least =
       shows = λ plans. table_leaves usable es plans cut.firsts cut.last 0 0 (sym all) keyed (omega arith);
       few = omega (arith, leaves_few (need_of usable Table true) key_item no_item room [] room (map leaf_item es), length-map es leaf_item);
       overs_are = keyed_overs usable 0 cut.firsts cut.last least keyed ∙ ap (overs usable Table) all;
+      fits =
+        let f = leaves_fit (need_of usable Table true) key_item no_item room [] room (map leaf_item es)
+          (all_items (λ x. need_of usable Table true x ≤ room) (λ e. leaf_fits usable Table (leaf_item e) least) es) (omega arith) in
+        sheets_fit usable Table true cut.firsts cut.last 0 f.firsts f.last;
     }
 leaf_level usable Index es least =
     let cut = leaf_cut usable Index es in
@@ -263,6 +280,10 @@ leaf_level usable Index es least =
       shows = λ plans. index_leaves usable es plans cut.firsts cut.last 0 0 (sym all) (omega arith);
       few = few es;
       overs_are = line_overs usable Index 0 cut.firsts cut.last ∙ ap (overs usable Index) all;
+      fits =
+        let f = cuts_fit (need_of usable Index true) room [] room (map leaf_item es)
+          (all_items (λ x. need_of usable Index true x ≤ room) (λ e. leaf_fits usable Index (leaf_item e) least) es) (omega arith) in
+        sheets_fit usable Index true cut.firsts cut.last 0 f.firsts f.last;
     }
   where
     few : (xs : List Entry) → length (leaf_cut usable Index xs).firsts ≤ length xs
@@ -301,6 +322,7 @@ grows_start usable kind top es spans plans l is =
         leaves_there = subst (AllByRecursion (AreThere es plans true)) (sym whole) sh.there;
         inner_there = subst (AllByRecursion (AreThere es plans false)) (sym none) tt;
         least = omega arith;
+        fits = l.fits;
       };
       all = refl;
       top_is = refl;
@@ -334,7 +356,13 @@ grows_end usable kind top es leaves base index plans least entries g fits =
       behind = g.behinds;
       few = omega (arith, g.overs_are, g.bound, few.pages);
       short = omega (arith, g.bound, few.pages);
+      fits =
+        let le : needs usable kind false g.line.cells ≤ top = below_top (needs usable kind false g.line.cells) top fits in
+        omega (arith, le, ap (λ (l : Line). needs usable kind false l.cells) (sym s.1 ∙ g.top_is));
     }
+  where
+    below_top : (a b : ℕ) → nat_le a b ≡ true → a ≤ b
+    below_top a b e = grind (arith, nat_tests)
 
 -- ---- what the calls of the loop ask
 
@@ -362,7 +390,7 @@ fit_each usable kind leaf room [] all i lt = absurd (omega arith)
 fit_each usable kind leaf room (x ∷ xs) all zero lt = all.0
 fit_each usable kind leaf room (x ∷ xs) all (suc i) lt = fit_each usable kind leaf room xs all.1 i (omega arith)
 
-sizes_pages : (usable : ℕ) (kind : Kind) (leaf : Bool) (xs : List Item) → pages_for (map (size_item usable kind leaf) xs) ≡ 1 + overs usable kind xs
+pub sizes_pages : (usable : ℕ) (kind : Kind) (leaf : Bool) (xs : List Item) → pages_for (map (size_item usable kind leaf) xs) ≡ 1 + overs usable kind xs
 sizes_pages usable kind leaf [] = refl
 sizes_pages usable kind leaf (x ∷ xs) = omega (arith, sizes_pages usable kind leaf xs, sum_by-cons overs_in (size_item usable kind leaf x) (map (size_item usable kind leaf) xs), sum_by-cons (item_overs usable kind) x xs)
 
@@ -380,7 +408,7 @@ line_sizes_fit usable kind top es leaves base index plans least entries g some =
       pages = omega (arith, sizes_pages usable kind false g.line.cells, g.overs_are, g.index_least, few.pages, g.lens, g.bound, some);
     }
 
-some_pages : (usable : ℕ) (kind : Kind) (es : List Entry) → 2 * length es + overs usable kind (map leaf_item es) ≤ 2 ^ 31 → 1 + overs usable kind (map leaf_item es) ≤ 2 ^ 31
+pub some_pages : (usable : ℕ) (kind : Kind) (es : List Entry) → 2 * length es + overs usable kind (map leaf_item es) ≤ 2 ^ 31 → 1 + overs usable kind (map leaf_item es) ≤ 2 ^ 31
 some_pages usable kind [] le = omega arith
 some_pages usable kind (e ∷ es) le = omega arith
 
@@ -395,7 +423,7 @@ leaf_sizes_fit usable kind es least entries =
 
 -- ---- one turn of the loop
 
-needs_sizes : (usable : ℕ) (kind : Kind) (leaf : Bool) (xs : List Item) → sum_by need_in (map (size_item usable kind leaf) xs) ≡ needs usable kind leaf xs
+pub needs_sizes : (usable : ℕ) (kind : Kind) (leaf : Bool) (xs : List Item) → sum_by need_in (map (size_item usable kind leaf) xs) ≡ needs usable kind leaf xs
 needs_sizes usable kind leaf [] = refl
 needs_sizes usable kind leaf (x ∷ xs) = omega (arith, needs_sizes usable kind leaf xs, sum_by-cons need_in (size_item usable kind leaf x) (map (size_item usable kind leaf) xs), sum_by-cons (need_of usable kind leaf) x xs)
 

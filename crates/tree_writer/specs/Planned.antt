@@ -49,7 +49,7 @@ pub record IsReady (usable : ℕ) (kind : Kind) (es : List Entry) (plans : List 
   pub most : usable ≤ 65536
   pub there : AreThere es plans leaf page
   pub small : (i : ℕ) → i < length es → length (entry_at es i).bytes < 2 ^ 36
-  pub few : overs usable kind (items_of kind es plans leaf page) ≤ 2 ^ 31
+  pub few : overs usable kind (items_of kind es plans leaf page) ≤ 2 ^ 31 + 1
   pub fits : needs usable kind leaf (items_of kind es plans leaf page) ≤ room_in usable leaf
 
 -- the payload of this entry, if any, stands at the front of the bytes
@@ -131,6 +131,10 @@ no_span = record { first = 0; cells = 0; pages = 0 }
 abbrev pub span_at : List Span → ℕ → Span
 span_at spans i = slice_index_or spans i no_span
 
+-- a page has room for its cells
+abbrev pub SheetFits : ℕ → Kind → Sheet → Type 0
+SheetFits usable kind s = needs usable kind s.leaf s.items ≤ room_in usable s.leaf
+
 -- the pages of a plan are these: what they say, their indexes, and what they speak of is there
 pub record IsLaid (usable : ℕ) (kind : Kind) (es : List Entry) (leaves : ℕ) (plans : List PagePlan) (sheets : List Sheet) : Type 0 where
   pub sheets_are : shown kind es leaves plans ≡ sheets
@@ -138,3 +142,4 @@ pub record IsLaid (usable : ℕ) (kind : Kind) (es : List Entry) (leaves : ℕ) 
   pub leaves_there : AllByRecursion (AreThere es plans true) (take leaves plans)
   pub inner_there : AllByRecursion (AreThere es plans false) (drop leaves plans)
   pub least : leaves ≤ length plans
+  pub fits : AllByRecursion (SheetFits usable kind) sheets

@@ -2,11 +2,13 @@
 
 ghost use Rattle.std.specs.Prelude.{◌≡◌, ◌≤◌, ◌<◌, ◌+◌, ◌-◌, ◌^◌, ◌++◌, ℕ, List, [], Some, None, true, false, IfOk, OnOk, length, map, take, sum_by, slice_index_or, if◌then◌else◌};
 ghost use Rattle.tree_writer.specs.Entry.{AreEntries, Entry, HaveNoRowids, RowidsRise, leaf_item};
-ghost use Rattle.tree_writer.specs.Levels.{pages_in};
+ghost use Rattle.tree_writer.specs.Layout.{pages_from, schema_pages, tree_pages};
+ghost use Rattle.cell_reader.specs.declared.shapes.Kind.{Kind};
+ghost use Rattle.tree_writer.specs.Levels.{pages_in, tree_line};
 ghost use Rattle.tree_writer.specs.Numbers.{number_of};
 ghost use Rattle.tree_writer.specs.Plan.{need_in, overs_in, size_item};
-ghost use Rattle.tree_writer.specs.Planned.{inner_item, leaf_behind, leaf_plans, level_plans, plan_at, span_at, span_pages};
-ghost use Rattle.tree_writer.specs.Trees.{IsRaised, first_spans, IsSchemaPlan, IsTreePlan};
+ghost use Rattle.tree_writer.specs.Planned.{HasRoom, IsHeld, inner_item, leaf_behind, leaf_plans, level_plans, plan_at, shown, span_at, span_pages};
+ghost use Rattle.tree_writer.specs.Trees.{IsPlan, IsRaised, IsSchemaPlan, IsTreePlan, IsWritable, first_spans, schema_count, tree_count};
 
 use crate::entries::Entries;
 use crate::groups::{Span, cut_spans, leaf_spans};
@@ -38,6 +40,8 @@ pub struct TreePlan {
     first_page: Option<PagePlan>,
     /// The number of pages with all overflow pages.
     count: u32,
+    /// The index of the root.
+    root: u32,
 }
 
 /// The highest pages of a plan: the number of leaves, the first page of the highest level, and the
@@ -259,6 +263,7 @@ impl TreePlan {
         let sizes = leaf_sizes(alloc, usable, kind, entries)?;
         let mut pages = Vec::new(alloc);
         let top = raise(alloc, usable, kind, entries, &sizes, 0, &mut pages)?;
+        let root = pages[pages.len() - 1].index;
         Ok(TreePlan {
             usable,
             kind,
@@ -266,6 +271,7 @@ impl TreePlan {
             pages,
             first_page: None,
             count: top.index,
+            root,
         })
     }
 
@@ -327,6 +333,7 @@ impl TreePlan {
                 pages,
                 first_page: Some(page),
                 count: 1 + overs_in(&sizes),
+                root: 0,
             });
         }
         let top = raise(alloc, usable, Kind::Table, entries, &sizes, usable - 112, &mut pages)?;
@@ -343,50 +350,32 @@ impl TreePlan {
             pages,
             first_page: Some(page),
             count: 1 + top.index,
+            root: 0,
         })
     }
 
     /// The number of pages, overflow pages among them.
-    pub fn page_count(&self) -> u32 {
+    pub fn page_count(&self) -> u32
+        ensures tree { (usable : ℕ) (kind : Kind) (es : List Entry) → IsTreePlan usable kind es self.now
+            → result ≡ tree_count usable kind es }
+        ensures schema { (usable : ℕ) (es : List Entry) → IsSchemaPlan usable es self.now
+            → result ≡ schema_count usable es }
+    {
         self.count
     }
 
-    /// The index of the root.
-    pub fn root(&self) -> u32 {
-        match self.first_page {
-            Some(_) => 0,
-            None => self.pages[self.pages.len() - 1].index,
-        }
+    /// The index of the root, 0 where it is page 1.
+    pub fn root(&self) -> u32
+        ensures tree { (usable : ℕ) (kind : Kind) (es : List Entry) → IsTreePlan usable kind es self.now
+            → result ≡ (tree_line usable kind 0 es).right }
+        ensures schema { (usable : ℕ) (es : List Entry) → IsSchemaPlan usable es self.now
+            → result ≡ 0 }
+    {
+        self.root
     }
 
-    // Page `j` of the plan.
-    fn sheet<'a, N: Entries>(&'a self, j: usize, entries: &'a N) -> Sheet<'a, N> {
-        Sheet {
-            usable: self.usable,
-            kind: self.kind,
-            leaf: j < self.leaves as usize,
-            page: self.pages[j],
-            pages: self.pages.as_slice(),
-            entries,
-        }
-    }
-
-    // The last page of the plan whose index is at most `k`.
-    fn find(&self, k: u32) -> usize {
-        let mut low = 0;
-        let mut high = self.pages.len();
-        while low + 1 < high {
-            let middle = low + (high - low) / 2;
-            if self.pages[middle].index <= k {
-                low = middle;
-            } else {
-                high = middle;
-            }
-        }
-        low
-    }
-
-    /// Fills `to` with the page of index `k`.
+    /// Fills `to` with the page of index `k`. Of page 1, which has index 0 in the plan of a schema, the
+    /// first 100 bytes are left; its other pages are numbered from `numbers.start`. Takes no memory.
     pub fn write_page<N: Entries>(
         &self,
         k: u32,
@@ -394,11 +383,26 @@ impl TreePlan {
         entries: &N,
         scratch: &mut [u8],
         to: &mut [u8],
-    ) {
+    )
+        requires plan { IsPlan (N.entries entries.now) self.now }
+        requires there { k < self.now.count }
+        requires some { 1 ≤ numbers.now.start }
+        requires numbers { numbers.now.start + self.now.count < 2 ^ 32 - 1 }
+        requires room { HasRoom (N.entries entries.now) scratch.old }
+        requires size { length to.old ≡ self.now.usable }
+        ensures tree { (usable : ℕ) (kind : Kind) → IsTreePlan usable kind (N.entries entries.now) self.now
+            → to.new ≡ slice_index_or (tree_pages usable kind
+            (number_of numbers.now.start numbers.now.lock) (N.entries entries.now)) k [] }
+        ensures schema { (usable : ℕ) → IsSchemaPlan usable (N.entries entries.now) self.now
+            → to.new ≡ slice_index_or (schema_pages (take 100 to.old) usable
+            (number_of numbers.now.start numbers.now.lock) (N.entries entries.now)) k [] }
+    {
         let _held = self.write_next(k, numbers, entries, None, scratch, to);
     }
 
-    /// The same where the payload of entry `held` is at the front of `scratch`.
+    /// The same where the payload of entry `held` stands at the front of `scratch`; gives the entry whose
+    /// payload stands there then. So pages that are written in rising order read each payload no more
+    /// than twice.
     pub fn write_next<N: Entries>(
         &self,
         k: u32,
@@ -407,10 +411,25 @@ impl TreePlan {
         held: Option<u32>,
         scratch: &mut [u8],
         to: &mut [u8],
-    ) -> Option<u32> {
+    ) -> Option<u32>
+        requires plan { IsPlan (N.entries entries.now) self.now }
+        requires there { k < self.now.count }
+        requires some { 1 ≤ numbers.now.start }
+        requires numbers { numbers.now.start + self.now.count < 2 ^ 32 - 1 }
+        requires held { IsHeld (N.entries entries.now) held scratch.old }
+        requires room { HasRoom (N.entries entries.now) scratch.old }
+        requires size { length to.old ≡ self.now.usable }
+        ensures tree { (usable : ℕ) (kind : Kind) → IsTreePlan usable kind (N.entries entries.now) self.now
+            → to.new ≡ slice_index_or (tree_pages usable kind
+            (number_of numbers.now.start numbers.now.lock) (N.entries entries.now)) k [] }
+        ensures schema { (usable : ℕ) → IsSchemaPlan usable (N.entries entries.now) self.now
+            → to.new ≡ slice_index_or (schema_pages (take 100 to.old) usable
+            (number_of numbers.now.start numbers.now.lock) (N.entries entries.now)) k [] }
+        ensures held { IsHeld (N.entries entries.now) result scratch.new }
+    {
         match self.first_page {
             None => self.write_below(k, numbers, entries, held, scratch, to),
-            Some(page) => {
+            Some(page) if k == 0 || k > page.index => {
                 let first = Sheet {
                     usable: self.usable,
                     kind: self.kind,
@@ -421,13 +440,34 @@ impl TreePlan {
                 };
                 if k == 0 {
                     first.write(numbers, page.index, held, scratch, 100, to)
-                } else if k > page.index {
-                    first.write_over(numbers, page.index, k - 1, held, scratch, to)
                 } else {
-                    self.write_below(k - 1, numbers, entries, held, scratch, to)
+                    first.write_over(numbers, page.index, k - 1, held, scratch, to)
                 }
             }
+            Some(_) => self.write_below(k - 1, numbers, entries, held, scratch, to),
         }
+    }
+
+    // The last page of the plan whose index is at most `k`.
+    fn find(&self, k: u32) -> usize
+        requires some { 0 < length self.now.pages.items }
+        requires low { (plan_at self.now.pages.items 0).index ≤ k }
+        ensures there { result < length self.now.pages.items }
+        ensures low { (plan_at self.now.pages.items result).index ≤ k }
+        ensures high { result + 1 < length self.now.pages.items
+            → k < (plan_at self.now.pages.items (result + 1)).index }
+    {
+        let mut low = 0;
+        let mut high = self.pages.len();
+        'halves: while high - low > 1 {
+            let middle = low + (high - low) / 2;
+            if self.pages[middle].index <= k {
+                low = middle;
+            } else {
+                high = middle;
+            }
+        }
+        low
     }
 
     // Fills `to` with the page of index `k` among those that are not page 1.
@@ -439,13 +479,36 @@ impl TreePlan {
         held: Option<u32>,
         scratch: &mut [u8],
         to: &mut [u8],
-    ) -> Option<u32> {
-        let sheet = self.sheet(self.find(k), entries);
-        let first = sheet.page.index + 1;
-        if k < first {
-            sheet.write(numbers, first, held, scratch, 0, to)
+    ) -> Option<u32>
+        requires plan { IsWritable self.now.usable self.now.kind (N.entries entries.now) self.now.leaves
+            self.now.pages.items }
+        requires there { k < pages_in self.now.usable self.now.kind (shown self.now.kind
+            (N.entries entries.now) self.now.leaves self.now.pages.items) }
+        requires some { 1 ≤ numbers.now.start }
+        requires numbers { numbers.now.start + pages_in self.now.usable self.now.kind (shown
+            self.now.kind (N.entries entries.now) self.now.leaves self.now.pages.items) < 2 ^ 32 - 1 }
+        requires held { IsHeld (N.entries entries.now) held scratch.old }
+        requires room { HasRoom (N.entries entries.now) scratch.old }
+        requires size { length to.old ≡ self.now.usable }
+        ensures bytes { to.new ≡ slice_index_or (pages_from self.now.usable self.now.kind
+            (number_of numbers.now.start numbers.now.lock) 0 (shown self.now.kind
+            (N.entries entries.now) self.now.leaves self.now.pages.items)) k [] }
+        ensures held { IsHeld (N.entries entries.now) result scratch.new }
+    {
+        let j = self.find(k);
+        let page = self.pages[j];
+        let sheet = Sheet {
+            usable: self.usable,
+            kind: self.kind,
+            leaf: j < self.leaves as usize,
+            page,
+            pages: self.pages.as_slice(),
+            entries,
+        };
+        if k == page.index {
+            sheet.write(numbers, page.index + 1, held, scratch, 0, to)
         } else {
-            sheet.write_over(numbers, first, k, held, scratch, to)
+            sheet.write_over(numbers, page.index + 1, k, held, scratch, to)
         }
     }
 }

@@ -40,19 +40,20 @@ pub adds_leaf : (kind : Kind) (spans : List Span) (old pages pages' : List PageP
     → AddsLeaves kind spans old pages' (index + (span_at spans i).pages) (i + 1)
 adds_leaf kind spans old pages pages' index i p a lt more is = record {
   all =
-    let head = ap (leaf_plans kind index) (at_head no_span spans i lt) in
-    ap (λ (t : List PagePlan). t ++ leaf_plans kind (index + (span_at spans i).pages) (drop (i + 1) spans)) more
-    ∙ append_assoc pages (p ∷ []) (leaf_plans kind (index + (span_at spans i).pages) (drop (i + 1) spans))
-    ∙ ap (λ (t : PagePlan). pages ++ (t ∷ leaf_plans kind (index + (span_at spans i).pages) (drop (i + 1) spans))) is
-    ∙ sym (ap (λ (t : List PagePlan). pages ++ t) head) ∙ a.all;
+      let head = ap (leaf_plans kind index) (at_head no_span spans i lt) in
+      ap (λ (t : List PagePlan). t ++ leaf_plans kind (index + (span_at spans i).pages) (drop (i + 1) spans)) more
+      ∙ append_assoc pages (p ∷ []) (leaf_plans kind (index + (span_at spans i).pages) (drop (i + 1) spans))
+      ∙ ap (λ (t : PagePlan). pages ++ (t ∷ leaf_plans kind (index + (span_at spans i).pages) (drop (i + 1) spans))) is
+      ∙ sym (ap (λ (t : List PagePlan). pages ++ t) head) ∙ a.all;
   sums = omega (arith, a.sums, sum_left spans i lt);
 }
 
 pub adds_leaves_done : (kind : Kind) (spans : List Span) (old pages : List PagePlan) (index i : ℕ) → AddsLeaves kind spans old pages index i → length spans ≤ i
     → (pages ≡ old ++ leaf_plans kind 0 spans) × (index ≡ sum_by span_pages spans)
-adds_leaves_done kind spans old pages index i a le =
-    (sym (append-nil pages) ∙ sym (ap (λ (t : List Span). pages ++ leaf_plans kind index t) (at_end spans i le)) ∙ a.all,
-      (let s = ap (sum_by span_pages) (at_end spans i le) in omega (arith, a.sums, s)))
+adds_leaves_done kind spans old pages index i a le = (
+  sym (append-nil pages) ∙ sym (ap (λ (t : List Span). pages ++ leaf_plans kind index t) (at_end spans i le)) ∙ a.all,
+  (let s = ap (sum_by span_pages) (at_end spans i le) in omega (arith, a.sums, s)),
+)
 
 pub record AddsLevel (spans : List Span) (old pages : List PagePlan) (base from index i : ℕ) : Type 0 where
   pub made : List PagePlan
@@ -76,22 +77,23 @@ adds_level spans old pages pages' base from index i p a lt there more is = recor
   made = a.made ++ p ∷ [];
   pages_are = more ∙ ap (λ (t : List PagePlan). t ++ p ∷ []) a.pages_are ∙ append_assoc old a.made (p ∷ []);
   all =
-    let head = ap (level_plans old base index) (at_head no_span spans i lt) in
-    let s = span_at spans i in
-    let f : ℕ → PagePlan = λ n. record { index = index; first = base + s.first; cells = s.cells; behind = n } in
-    ap (λ (t : List PagePlan). t ++ level_plans old base (index + s.pages) (drop (i + 1) spans)) more
-    ∙ append_assoc pages (p ∷ []) (level_plans old base (index + s.pages) (drop (i + 1) spans))
-    ∙ ap (λ (t : PagePlan). pages ++ (t ∷ level_plans old base (index + s.pages) (drop (i + 1) spans)))
+      let head = ap (level_plans old base index) (at_head no_span spans i lt) in
+      let s = span_at spans i in
+      let f : ℕ → PagePlan = λ n. record { index = index; first = base + s.first; cells = s.cells; behind = n } in
+      ap (λ (t : List PagePlan). t ++ level_plans old base (index + s.pages) (drop (i + 1) spans)) more
+      ∙ append_assoc pages (p ∷ []) (level_plans old base (index + s.pages) (drop (i + 1) spans))
+      ∙ ap (λ (t : PagePlan). pages ++ (t ∷ level_plans old base (index + s.pages) (drop (i + 1) spans)))
       (is ∙ ap f (old_behind old pages spans base from index i (base + s.first + s.cells) a there))
-    ∙ sym (ap (λ (t : List PagePlan). pages ++ t) head) ∙ a.all;
+      ∙ sym (ap (λ (t : List PagePlan). pages ++ t) head) ∙ a.all;
   sums = omega (arith, a.sums, sum_left spans i lt);
 }
 
 pub adds_level_done : (spans : List Span) (old pages : List PagePlan) (base from index i : ℕ) → AddsLevel spans old pages base from index i → length spans ≤ i
     → (pages ≡ old ++ level_plans old base from spans) × (index ≡ from + sum_by span_pages spans)
-adds_level_done spans old pages base from index i a le =
-    (sym (append-nil pages) ∙ sym (ap (λ (t : List Span). pages ++ level_plans old base index t) (at_end spans i le)) ∙ a.all,
-      (let s = ap (sum_by span_pages) (at_end spans i le) in omega (arith, a.sums, s)))
+adds_level_done spans old pages base from index i a le = (
+  sym (append-nil pages) ∙ sym (ap (λ (t : List Span). pages ++ level_plans old base index t) (at_end spans i le)) ∙ a.all,
+  (let s = ap (sum_by span_pages) (at_end spans i le) in omega (arith, a.sums, s)),
+)
 
 pub map_map : {X Y Z : Type 0} (f : Y → Z) (h : X → Y) (xs : List X) → map f (map h xs) ≡ map (λ x. f (h x)) xs
 map_map f h [] = refl

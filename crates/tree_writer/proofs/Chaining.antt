@@ -56,7 +56,7 @@ chains_at : (usable : ℕ) (kind : Kind) (items : List Item) (i at : ℕ) → i 
     ≡ chain_pages usable kind number at (get_or items i no_item).entry ++ chains_from usable kind number (at + item_overs usable kind (get_or items i no_item)) (drop (i + 1) items)
 chains_at usable kind items i at lt number = ap (chains_from usable kind number at) (at_head no_item items i lt)
 
-length-chain : (usable : ℕ) (kind : Kind) (number : ℕ → ℕ) (k : ℕ) (e : Entry) → length (chain_pages usable kind number k e) ≡ over_count usable kind e
+pub length-chain : (usable : ℕ) (kind : Kind) (number : ℕ → ℕ) (k : ℕ) (e : Entry) → length (chain_pages usable kind number k e) ≡ over_count usable kind e
 length-chain usable kind number k e = length-over usable number k (over_count usable kind e) (drop (kept_of usable kind e.bytes) e.bytes)
 
 pub chaining_more : (usable : ℕ) (kind : Kind) (leaf : Bool) (items : List Item) (first k at i : ℕ) (s : Size) → Chaining usable kind items first k at i
@@ -68,14 +68,14 @@ chaining_more usable kind leaf items first k at i s c lt is past =
       at_is = omega (arith, c.at_is, o, sum_by_more (item_overs usable kind) items i no_item lt);
       low = past;
       pages = λ number.
-        let pages = chain_pages usable kind number at x.entry in
-        let rest = chains_from usable kind number (at + item_overs usable kind x) (drop (i + 1) items) in
-        let len : length pages ≡ item_overs usable kind x = length-chain usable kind number at x.entry in
-        let le : length pages ≤ k - at = omega (arith, len, o) in
-        let place : k - at - length pages ≡ k - (at + s.overs) = omega (arith, len, o) in
-        c.pages number ∙ ap (λ t. get_or t (k - at) []) (chains_at usable kind items i at lt number)
-        ∙ get_or-append_right pages rest (k - at) [] le ∙ ap (λ n. get_or rest n []) place
-        ∙ ap (λ n. get_or (chains_from usable kind number (at + n) (drop (i + 1) items)) (k - (at + s.overs)) []) (sym o);
+          let pages = chain_pages usable kind number at x.entry in
+          let rest = chains_from usable kind number (at + item_overs usable kind x) (drop (i + 1) items) in
+          let len : length pages ≡ item_overs usable kind x = length-chain usable kind number at x.entry in
+          let le : length pages ≤ k - at = omega (arith, len, o) in
+          let place : k - at - length pages ≡ k - (at + s.overs) = omega (arith, len, o) in
+          c.pages number ∙ ap (λ t. get_or t (k - at) []) (chains_at usable kind items i at lt number)
+          ∙ get_or-append_right pages rest (k - at) [] le ∙ ap (λ n. get_or rest n []) place
+          ∙ ap (λ n. get_or (chains_from usable kind number (at + n) (drop (i + 1) items)) (k - (at + s.overs)) []) (sym o);
     }
 
 -- the cell is found
@@ -98,13 +98,13 @@ chaining_found usable kind leaf es items first k at i child entry s least c lt i
       many = o ∙ ap (over_count usable kind) (e ∙ whole);
       end = omega (arith, c.at_is, o, sum_by_more_le (item_overs usable kind) items i no_item lt);
       pages = λ number.
-        let pages = chain_pages usable kind number at x.entry in
-        let rest = chains_from usable kind number (at + item_overs usable kind x) (drop (i + 1) items) in
-        let len : length pages ≡ item_overs usable kind x = length-chain usable kind number at x.entry in
-        let here : k - at < length pages = omega (arith, len, o, c.low) in
-        c.pages number ∙ ap (λ t. get_or t (k - at) []) (chains_at usable kind items i at lt number)
-        ∙ get_or-append pages rest [] (k - at) here
-        ∙ ap (λ (t : Entry). get_or (chain_pages usable kind number at t) (k - at) []) (e ∙ whole);
+          let pages = chain_pages usable kind number at x.entry in
+          let rest = chains_from usable kind number (at + item_overs usable kind x) (drop (i + 1) items) in
+          let len : length pages ≡ item_overs usable kind x = length-chain usable kind number at x.entry in
+          let here : k - at < length pages = omega (arith, len, o, c.low) in
+          c.pages number ∙ ap (λ t. get_or t (k - at) []) (chains_at usable kind items i at lt number)
+          ∙ get_or-append pages rest [] (k - at) here
+          ∙ ap (λ (t : Entry). get_or (chain_pages usable kind number at t) (k - at) []) (e ∙ whole);
     }
 
 -- ---- the page itself
@@ -127,7 +127,7 @@ over_at usable number k (suc n) (suc r) bytes lt =
     ∙ ap (λ m. over_page usable number m (nat_eq (n - 1 - r) 0) (drop (r * (usable - 4)) (drop (usable - 4) bytes))) a
     ∙ ap (λ m. over_page usable number (k + suc r) (nat_eq m 0) (drop (r * (usable - 4)) (drop (usable - 4) bytes))) b
     ∙ ap (λ (t : List ℕ). over_page usable number (k + suc r) (nat_eq (suc n - 1 - suc r) 0) t)
-      (drop-drop (r * (usable - 4)) (usable - 4) bytes ∙ ap (λ m. drop m bytes) c)
+    (drop-drop (r * (usable - 4)) (usable - 4) bytes ∙ ap (λ m. drop m bytes) c)
 
 pub chaining_room : (usable : ℕ) (kind : Kind) (leaf : Bool) (items : List Item) (first k at i : ℕ) (s : Size) → Chaining usable kind items first k at i
     → i < length items → s ≡ size_item usable kind leaf (get_or items i no_item) → at + s.overs ≤ first + overs usable kind items
@@ -158,10 +158,10 @@ over_written usable kind number e first k content to next low high c n t =
     let r = k - first in
     let bytes = drop kept e.bytes in
     let body : drop (kept + r * (usable - 4)) e.bytes ≡ drop (r * (usable - 4)) bytes
-      = sym (drop-drop (r * (usable - 4)) kept e.bytes) in
+    = sym (drop-drop (r * (usable - 4)) kept e.bytes) in
     let content_of = c ∙ ap (take (usable - 4)) body in
     let zeros : usable - 4 - length content ≡ usable - 4 - length (drop (r * (usable - 4)) bytes)
-      = omega (arith, ap length content_of, length-take (usable - 4) (drop (r * (usable - 4)) bytes)) in
+    = omega (arith, ap length content_of, length-take (usable - 4) (drop (r * (usable - 4)) bytes)) in
     let place : k ≡ first + r = omega arith in
     t ∙ ap (λ m. big_bytes 4 next ++ (content ++ replicate m 0)) zeros
     ∙ ap (λ (s : List ℕ). big_bytes 4 next ++ (s ++ replicate (usable - 4 - length (drop (r * (usable - 4)) bytes)) 0)) content_of

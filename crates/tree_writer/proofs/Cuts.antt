@@ -80,10 +80,10 @@ cuts_few need room held left [] hs half used some = omega arith
 cuts_few need room held left (x ∷ xs) hs half used some =
     few_if (nat_le (need x) left) (cuts need room (held ++ x ∷ []) (left - need x) xs) (past held x xs (cuts need room [] room xs)) (length held + length (x ∷ xs))
     (λ e. let le : need x ≤ left = grind (arith, nat_tests) in
-      let h = cuts_few need room (held ++ x ∷ []) (left - need x) xs (all_push (λ y. 2 * need y ≤ room) held x hs half.0) half.1 (omega (arith, sum_push need held x)) (omega (arith, length_push held x)) in omega (arith, length_push held x))
+    let h = cuts_few need room (held ++ x ∷ []) (left - need x) xs (all_push (λ y. 2 * need y ≤ room) held x hs half.0) half.1 (omega (arith, sum_push need held x)) (omega (arith, length_push held x)) in omega (arith, length_push held x))
     (λ e. let lt : left < need x = grind (arith, nat_tests) in
-      few_past held x xs (cuts need room [] room xs) (two_held need room left held x hs half.0 used lt)
-      (λ s. let h = cuts_few need room [] room xs tt half.1 (omega arith) (omega arith) in omega arith))
+    few_past held x xs (cuts need room [] room xs) (two_held need room left held x hs half.0 used lt)
+    (λ s. let h = cuts_few need room [] room xs tt half.1 (omega arith) (omega arith) in omega arith))
 
 leaves_if : {X : Type 0} (b : Bool) (c d : Cut X) (n : ℕ) → length c.firsts ≤ n → length d.firsts ≤ n → length (if b then c else d).firsts ≤ n
 leaves_if true c d n e f = e
@@ -156,8 +156,8 @@ pub cuts_same : (usable : ℕ) (kind : Kind) (leaf : Bool) (room : ℕ) (held : 
 cuts_same usable kind leaf room held left [] = record { firsts = tt; last = refl }
 cuts_same usable kind leaf room held left (x ∷ xs) =
     let more = subst (λ (t : List Size). SameCut usable kind leaf (cuts (need_of usable kind leaf) room (held ++ x ∷ []) (left - need_of usable kind leaf x) xs)
-        (cuts need_in room t (left - need_of usable kind leaf x) (map (size_item usable kind leaf) xs)))
-      (map-append (size_item usable kind leaf) held (x ∷ [])) (cuts_same usable kind leaf room (held ++ x ∷ []) (left - need_of usable kind leaf x) xs) in
+    (cuts need_in room t (left - need_of usable kind leaf x) (map (size_item usable kind leaf) xs)))
+    (map-append (size_item usable kind leaf) held (x ∷ [])) (cuts_same usable kind leaf room (held ++ x ∷ []) (left - need_of usable kind leaf x) xs) in
     same_if usable kind leaf (nat_le (need_of usable kind leaf x) left) _ _ _ _ more
     (same_past usable kind leaf held x xs (cuts (need_of usable kind leaf) room [] room xs) _ (cuts_same usable kind leaf room [] room xs))
 
@@ -171,8 +171,8 @@ pub leaves_same : (usable : ℕ) (kind : Kind) (leaf : Bool) (key : Item → Ite
 leaves_same usable kind leaf key d room held left [] = record { firsts = tt; last = refl }
 leaves_same usable kind leaf key d room held left (x ∷ xs) =
     let more = subst (λ (t : List Size). SameCut usable kind leaf (leaves (need_of usable kind leaf) key d room (held ++ x ∷ []) (left - need_of usable kind leaf x) xs)
-        (leaves need_in no_key no_size room t (left - need_of usable kind leaf x) (map (size_item usable kind leaf) xs)))
-      (map-append (size_item usable kind leaf) held (x ∷ [])) (leaves_same usable kind leaf key d room (held ++ x ∷ []) (left - need_of usable kind leaf x) xs) in
+    (leaves need_in no_key no_size room t (left - need_of usable kind leaf x) (map (size_item usable kind leaf) xs)))
+    (map-append (size_item usable kind leaf) held (x ∷ [])) (leaves_same usable kind leaf key d room (held ++ x ∷ []) (left - need_of usable kind leaf x) xs) in
     same_if usable kind leaf (nat_le (need_of usable kind leaf x) left) _ _ _ _ more
     (same_cons usable kind leaf held (key (last_of d held)) no_size _ _ (leaves_same usable kind leaf key d room (x ∷ []) (room - need_of usable kind leaf x) xs))
 
@@ -202,7 +202,7 @@ leaves_keyed need key d room held left (x ∷ xs) fit used =
     (cons_cut held (key (last_of d held)) (leaves need key d room (x ∷ []) (room - need x) xs))
     (λ e. let le : need x ≤ left = grind (arith, nat_tests) in leaves_keyed need key d room (held ++ x ∷ []) (left - need x) xs fit.1 (omega (arith, sum_push need held x)))
     (λ e. let lt : left < need x = grind (arith, nat_tests) in
-      (refl, some_held need room left held x fit.0 used lt, leaves_keyed need key d room (x ∷ []) (room - need x) xs fit.1 (omega (arith, sum_by-cons need x [], fit.0))))
+    (refl, some_held need room left held x fit.0 used lt, leaves_keyed need key d room (x ∷ []) (room - need x) xs fit.1 (omega (arith, sum_by-cons need x [], fit.0))))
 
 -- each page has room for its cells
 pub record CutFits {X : Type 0} (need : X → ℕ) (room : ℕ) (c : Cut X) : Type 0 where

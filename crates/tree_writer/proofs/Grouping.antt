@@ -100,7 +100,7 @@ leaf_rest sizes room held left first i = spans_of 0 first (leaves need_in no_key
 pub record Leafing (sizes : List Size) (room : ℕ) (spans : List Span) (span : Span) (left i : ℕ) : Type 0 where
   pub begun : Begun sizes room span left i
   pub all : spans ++ spans_of 0 span.first (leaves need_in no_key no_size room begun.held left (drop i sizes))
-    ≡ spans_of 0 0 (leaves need_in no_key no_size room [] room sizes)
+      ≡ spans_of 0 0 (leaves need_in no_key no_size room [] room sizes)
 
 pub leafing_start : (sizes : List Size) (room : ℕ) → Leafing sizes room [] (record { first = 0; cells = 0; pages = 1 }) room 0
 unfolding begun_start
@@ -122,9 +122,9 @@ unfolding begun_more
 leafing_fit sizes room spans span left i s l lt is fit = record {
   begun = begun_more sizes room span left i s l.begun lt is fit;
   all =
-    let head = head_at sizes i s lt is in
-    let step = ap (leaves need_in no_key no_size room l.begun.held left) head ∙ leaves_fit room left l.begun.held s (drop (i + 1) sizes) fit in
-    sym (ap (λ (c : Cut Size). spans ++ spans_of 0 span.first c) step) ∙ l.all;
+      let head = head_at sizes i s lt is in
+      let step = ap (leaves need_in no_key no_size room l.begun.held left) head ∙ leaves_fit room left l.begun.held s (drop (i + 1) sizes) fit in
+      sym (ap (λ (c : Cut Size). spans ++ spans_of 0 span.first c) step) ∙ l.all;
 }
 
 pub leafing_full : (sizes : List Size) (room : ℕ) (spans : List Span) (span : Span) (left i : ℕ) (s : Size) → (l : Leafing sizes room spans span left i)
@@ -134,14 +134,14 @@ unfolding begun_anew
 leafing_full sizes room spans span left i s l lt is full fit = record {
   begun = begun_anew sizes room span left i s l.begun lt is fit;
   all =
-    let head = head_at sizes i s lt is in
-    let rest = leaves need_in no_key no_size room (s ∷ []) (room - s.need) (drop (i + 1) sizes) in
-    let step = ap (leaves need_in no_key no_size room l.begun.held left) head ∙ leaves_full room left l.begun.held s (drop (i + 1) sizes) full in
-    let first : span.first + span.cells ≡ span.first + length l.begun.held + 0 = omega (arith, l.begun.cells_are) in
-    append_assoc spans (span ∷ []) (spans_of 0 (span.first + span.cells) rest)
-    ∙ ap (λ n. spans ++ (span ∷ spans_of 0 n rest)) first
-    ∙ ap (λ (p : Span). spans ++ (p ∷ spans_of 0 (span.first + length l.begun.held + 0) rest)) (span_shown span l.begun.held l.begun.cells_are l.begun.pages_are)
-    ∙ sym (ap (λ (c : Cut Size). spans ++ spans_of 0 span.first c) step) ∙ l.all;
+      let head = head_at sizes i s lt is in
+      let rest = leaves need_in no_key no_size room (s ∷ []) (room - s.need) (drop (i + 1) sizes) in
+      let step = ap (leaves need_in no_key no_size room l.begun.held left) head ∙ leaves_full room left l.begun.held s (drop (i + 1) sizes) full in
+      let first : span.first + span.cells ≡ span.first + length l.begun.held + 0 = omega (arith, l.begun.cells_are) in
+      append_assoc spans (span ∷ []) (spans_of 0 (span.first + span.cells) rest)
+      ∙ ap (λ n. spans ++ (span ∷ spans_of 0 n rest)) first
+      ∙ ap (λ (p : Span). spans ++ (p ∷ spans_of 0 (span.first + length l.begun.held + 0) rest)) (span_shown span l.begun.held l.begun.cells_are l.begun.pages_are)
+      ∙ sym (ap (λ (c : Cut Size). spans ++ spans_of 0 span.first c) step) ∙ l.all;
 }
 
 pub leafing_done : (sizes : List Size) (room : ℕ) (spans : List Span) (span : Span) (left i : ℕ) → (l : Leafing sizes room spans span left i)
@@ -158,7 +158,7 @@ pub record Cutting (sizes : List Size) (room : ℕ) (spans : List Span) (span : 
   pub front_len : length front ≡ span.first
   pub split : sizes ≡ front ++ (begun.held ++ drop i sizes)
   pub all : spans ++ spans_of 1 span.first (cuts need_in room begun.held left (drop i sizes))
-    ≡ spans_of 1 0 (cuts need_in room [] room sizes)
+      ≡ spans_of 1 0 (cuts need_in room [] room sizes)
 
 pub cutting_start : (sizes : List Size) (room : ℕ) → Cutting sizes room [] (record { first = 0; cells = 0; pages = 1 }) room 0
 unfolding begun_start
@@ -188,11 +188,11 @@ cutting_fit sizes room spans span left i s l lt is fit = record {
   front = l.front;
   front_len = l.front_len;
   split = l.split ∙ ap (λ (t : List Size). l.front ++ (l.begun.held ++ t)) (head_at sizes i s lt is)
-    ∙ sym (ap (λ (t : List Size). l.front ++ t) (append_assoc l.begun.held (s ∷ []) (drop (i + 1) sizes)));
+      ∙ sym (ap (λ (t : List Size). l.front ++ t) (append_assoc l.begun.held (s ∷ []) (drop (i + 1) sizes)));
   all =
-    let head = head_at sizes i s lt is in
-    let step = ap (cuts need_in room l.begun.held left) head ∙ cuts_fit room left l.begun.held s (drop (i + 1) sizes) fit in
-    sym (ap (λ (c : Cut Size). spans ++ spans_of 1 span.first c) step) ∙ l.all;
+      let head = head_at sizes i s lt is in
+      let step = ap (cuts need_in room l.begun.held left) head ∙ cuts_fit room left l.begun.held s (drop (i + 1) sizes) fit in
+      sym (ap (λ (c : Cut Size). spans ++ spans_of 1 span.first c) step) ∙ l.all;
 }
 
 pub cutting_full : (sizes : List Size) (room : ℕ) (spans : List Span) (span : Span) (left i : ℕ) (s : Size) → (l : Cutting sizes room spans span left i)
@@ -201,23 +201,23 @@ pub cutting_full : (sizes : List Size) (room : ℕ) (spans : List Span) (span : 
 unfolding begun_past
 cutting_full sizes room spans span left i s l lt is full =
     let here : i < length sizes = omega arith in record {
-  begun = begun_past sizes room span left i s l.begun here is;
-  front = l.front ++ (l.begun.held ++ s ∷ []);
-  front_len = omega (arith, l.front_len, l.begun.cells_are, length-append l.front (l.begun.held ++ s ∷ []), length_push l.begun.held s);
-  split = l.split ∙ ap (λ (t : List Size). l.front ++ (l.begun.held ++ t)) (head_at sizes i s here is)
-    ∙ sym (ap (λ (t : List Size). l.front ++ t) (append_assoc l.begun.held (s ∷ []) (drop (i + 1) sizes)))
-    ∙ sym (append_assoc l.front (l.begun.held ++ s ∷ []) (drop (i + 1) sizes));
-  all =
-    let head = head_at sizes i s here is in
-    let rest = cuts need_in room [] room (drop (i + 1) sizes) in
-    let step = ap (cuts need_in room l.begun.held left) head ∙ cuts_full room left l.begun.held s (drop (i + 1) sizes) full
-      ∙ past_more l.begun.held s (drop (i + 1) sizes) rest (i + 1) sizes refl lt in
-    let first : span.first + span.cells + 1 ≡ span.first + length l.begun.held + 1 = omega (arith, l.begun.cells_are) in
-    append_assoc spans (span ∷ []) (spans_of 1 (span.first + span.cells + 1) rest)
-    ∙ ap (λ n. spans ++ (span ∷ spans_of 1 n rest)) first
-    ∙ ap (λ (p : Span). spans ++ (p ∷ spans_of 1 (span.first + length l.begun.held + 1) rest)) (span_shown span l.begun.held l.begun.cells_are l.begun.pages_are)
-    ∙ sym (ap (λ (c : Cut Size). spans ++ spans_of 1 span.first c) step) ∙ l.all;
-}
+      begun = begun_past sizes room span left i s l.begun here is;
+      front = l.front ++ (l.begun.held ++ s ∷ []);
+      front_len = omega (arith, l.front_len, l.begun.cells_are, length-append l.front (l.begun.held ++ s ∷ []), length_push l.begun.held s);
+      split = l.split ∙ ap (λ (t : List Size). l.front ++ (l.begun.held ++ t)) (head_at sizes i s here is)
+          ∙ sym (ap (λ (t : List Size). l.front ++ t) (append_assoc l.begun.held (s ∷ []) (drop (i + 1) sizes)))
+          ∙ sym (append_assoc l.front (l.begun.held ++ s ∷ []) (drop (i + 1) sizes));
+      all =
+          let head = head_at sizes i s here is in
+          let rest = cuts need_in room [] room (drop (i + 1) sizes) in
+          let step = ap (cuts need_in room l.begun.held left) head ∙ cuts_full room left l.begun.held s (drop (i + 1) sizes) full
+          ∙ past_more l.begun.held s (drop (i + 1) sizes) rest (i + 1) sizes refl lt in
+          let first : span.first + span.cells + 1 ≡ span.first + length l.begun.held + 1 = omega (arith, l.begun.cells_are) in
+          append_assoc spans (span ∷ []) (spans_of 1 (span.first + span.cells + 1) rest)
+          ∙ ap (λ n. spans ++ (span ∷ spans_of 1 n rest)) first
+          ∙ ap (λ (p : Span). spans ++ (p ∷ spans_of 1 (span.first + length l.begun.held + 1) rest)) (span_shown span l.begun.held l.begun.cells_are l.begun.pages_are)
+          ∙ sym (ap (λ (c : Cut Size). spans ++ spans_of 1 span.first c) step) ∙ l.all;
+    }
 
 -- the last cell does not fit: the group gives up its own last cell
 given : (h : Size) (hs : List Size) → (h ∷ hs ≡ start_of h hs ++ end_of h hs ∷ [])
@@ -234,18 +234,18 @@ pub record GivesUp (sizes : List Size) (room : ℕ) (spans : List Span) (span : 
   pub some : 1 ≤ span.cells
   pub overs : away.overs + 1 ≤ span.pages
   pub next : Cutting sizes room (spans ++ record { first = span.first; cells = span.cells - 1; pages = span.pages - away.overs } ∷ [])
-    (record { first = span.first + span.cells; cells = 1; pages = 1 + s.overs }) (room - s.need) (i + 1)
+      (record { first = span.first + span.cells; cells = 1; pages = 1 + s.overs }) (room - s.need) (i + 1)
 
 -- the last of the held cells stands before cell i
 last_held : (front rest : List Size) (h : Size) (hs sizes : List Size) (i : ℕ) → sizes ≡ front ++ ((h ∷ hs) ++ rest)
     → length front + length (h ∷ hs) ≡ i → get_or sizes (i - 1) no_size ≡ end_of h hs
 last_held front rest h hs sizes i split len =
     let whole : sizes ≡ (front ++ start_of h hs) ++ (end_of h hs ∷ rest)
-      = split ∙ ap (λ (t : List Size). front ++ (t ++ rest)) (given h hs)
-      ∙ ap (λ (t : List Size). front ++ t) (append_assoc (start_of h hs) (end_of h hs ∷ []) rest)
-      ∙ sym (append_assoc front (start_of h hs) (end_of h hs ∷ rest)) in
+    = split ∙ ap (λ (t : List Size). front ++ (t ++ rest)) (given h hs)
+    ∙ ap (λ (t : List Size). front ++ t) (append_assoc (start_of h hs) (end_of h hs ∷ []) rest)
+    ∙ sym (append_assoc front (start_of h hs) (end_of h hs ∷ rest)) in
     let place : i - 1 ≡ length (front ++ start_of h hs)
-      = omega (arith, length-append front (start_of h hs), ap length (given h hs), length_push (start_of h hs) (end_of h hs)) in
+    = omega (arith, length-append front (start_of h hs), ap length (given h hs), length_push (start_of h hs) (end_of h hs)) in
     ap (λ (t : List Size). get_or t (i - 1) no_size) whole
     ∙ ap (λ n. get_or ((front ++ start_of h hs) ++ (end_of h hs ∷ rest)) n no_size) place
     ∙ get_here (front ++ start_of h hs) (end_of h hs) rest no_size
@@ -259,6 +259,7 @@ gives_up sizes room spans span left i s away l last is full fit away_is =
   where
     here : i < length sizes
     here = omega (arith, last)
+
     by : (held : List Size) → held ≡ l.begun.held → span.cells ≡ length held → span.pages ≡ pages_for held → span.first + length held ≡ i
         → sizes ≡ l.front ++ (held ++ drop i sizes)
         → spans ++ spans_of 1 span.first (cuts need_in room held left (drop i sizes)) ≡ spans_of 1 0 (cuts need_in room [] room sizes)
@@ -271,9 +272,9 @@ gives_up sizes room spans span left i s away l last is full fit away_is =
         let o : away.overs ≡ (end_of h hs).overs = ap overs_in end_is in
         let none : drop (i + 1) sizes ≡ [] = at_end sizes (i + 1) (omega (arith, last)) in
         let step : cuts need_in room (h ∷ hs) left (drop i sizes) ≡ give_up (h ∷ hs) s
-          = ap (cuts need_in room (h ∷ hs) left) (head_at sizes i s here is ∙ ap (λ (t : List Size). s ∷ t) none) ∙ cuts_full room left (h ∷ hs) s [] full in
+        = ap (cuts need_in room (h ∷ hs) left) (head_at sizes i s here is ∙ ap (λ (t : List Size). s ∷ t) none) ∙ cuts_full room left (h ∷ hs) s [] full in
         let shown : record { first = span.first; cells = span.cells - 1; pages = span.pages - away.overs } ≡ span_of span.first (start_of h hs)
-          = span_shown (record { first = span.first; cells = span.cells - 1; pages = span.pages - away.overs }) (start_of h hs) (omega (arith, cells, lens)) (omega (arith, pages, sums, o)) in
+        = span_shown (record { first = span.first; cells = span.cells - 1; pages = span.pages - away.overs }) (start_of h hs) (omega (arith, cells, lens)) (omega (arith, pages, sums, o)) in
         let place : span.first + span.cells ≡ span.first + length (start_of h hs) + 1 = omega (arith, cells, lens) in
         let last_pages : 1 + s.overs ≡ pages_for (s ∷ []) = omega (arith, sum_by-cons overs_in s []) in
         let rest_none : cuts need_in room (s ∷ []) (room - s.need) (drop (i + 1) sizes) ≡ record { firsts = []; last = s ∷ [] } = ap (cuts need_in room (s ∷ []) (room - s.need)) none in
@@ -286,11 +287,11 @@ gives_up sizes room spans span left i s away l last is full fit away_is =
             front_len = omega (arith, l.front_len, cells, length-append l.front (h ∷ hs));
             split = split ∙ ap (λ (t : List Size). l.front ++ ((h ∷ hs) ++ t)) (head_at sizes i s here is) ∙ sym (append_assoc l.front (h ∷ hs) (s ∷ drop (i + 1) sizes));
             all =
-              ap (λ (c : Cut Size). (spans ++ record { first = span.first; cells = span.cells - 1; pages = span.pages - away.overs } ∷ []) ++ spans_of 1 (span.first + span.cells) c) rest_none
-              ∙ append_assoc spans (record { first = span.first; cells = span.cells - 1; pages = span.pages - away.overs } ∷ []) (span_of (span.first + span.cells) (s ∷ []) ∷ [])
-              ∙ ap (λ (p : Span). spans ++ (p ∷ span_of (span.first + span.cells) (s ∷ []) ∷ [])) shown
-              ∙ ap (λ n. spans ++ (span_of span.first (start_of h hs) ∷ span_of n (s ∷ []) ∷ [])) place
-              ∙ sym (ap (λ (c : Cut Size). spans ++ spans_of 1 span.first c) step) ∙ all;
+                ap (λ (c : Cut Size). (spans ++ record { first = span.first; cells = span.cells - 1; pages = span.pages - away.overs } ∷ []) ++ spans_of 1 (span.first + span.cells) c) rest_none
+                ∙ append_assoc spans (record { first = span.first; cells = span.cells - 1; pages = span.pages - away.overs } ∷ []) (span_of (span.first + span.cells) (s ∷ []) ∷ [])
+                ∙ ap (λ (p : Span). spans ++ (p ∷ span_of (span.first + span.cells) (s ∷ []) ∷ [])) shown
+                ∙ ap (λ n. spans ++ (span_of span.first (start_of h hs) ∷ span_of n (s ∷ []) ∷ [])) place
+                ∙ sym (ap (λ (c : Cut Size). spans ++ spans_of 1 span.first c) step) ∙ all;
           };
         }
 

@@ -69,8 +69,8 @@ pointing_more usable lens old to to' from at at' end i len p lt is le next put =
       at_is = omega (arith, p.at_is);
       end_is = omega (arith, p.end_is, sum_by_more (λ n. n) lens i 0 lt);
       front = ap (λ (t : List ℕ). t ++ pointers (end - len) (drop (i + 1) lens)) put
-        ∙ append_assoc (take at to) (big_bytes 2 (end - len)) (pointers (end - len) (drop (i + 1) lens))
-        ∙ sym (ap (λ (t : List ℕ). take at to ++ pointers end t) head) ∙ p.front;
+          ∙ append_assoc (take at to) (big_bytes 2 (end - len)) (pointers (end - len) (drop (i + 1) lens))
+          ∙ sym (ap (λ (t : List ℕ). take at to ++ pointers end t) head) ∙ p.front;
     }
 
 pub pointing_done : (usable : ℕ) (lens old to : List ℕ) (from at end i : ℕ) → Pointing usable lens old to from at end i → length lens ≤ i
@@ -145,7 +145,7 @@ cell_sums usable kind leaf items i s lt is =
     record {
       overs_are = omega (arith, o, sum_by_more (item_overs usable kind) items i no_item lt);
       slots_are = ap sum (map_take f (i + 1) items) ∙ sum_by_more (λ n. n) (map f items) i 0 here
-        ∙ ap (λ n. sum (take i (map f items)) + n) (get_or-map f items i no_item 0 lt) ∙ ap (λ (t : List ℕ). sum t + f (get_or items i no_item)) (sym (map_take f i items));
+          ∙ ap (λ n. sum (take i (map f items)) + n) (get_or-map f items i no_item 0 lt) ∙ ap (λ (t : List ℕ). sum t + f (get_or items i no_item)) (sym (map_take f i items));
     }
 
 -- the payload that stands at the front
@@ -188,16 +188,16 @@ stacking_more usable kind leaf number items first next i j old to to' from at at
     let before : next - s.overs ≡ first + overs usable kind (take i items) = omega (arith, st.next_is, sums.overs_are) in
     let behind : next - s.overs + item_overs usable kind x ≡ next = omega (arith, st.next_is, sums.overs_are, o) in
     let slot_is : length (slot (cell_bytes usable kind leaf laid)) ≡ slot_for usable kind leaf x
-      = ap (λ (l : Laid). length (slot (cell_bytes usable kind leaf l))) same ∙ slot_of_cell usable kind leaf number (next - s.overs) x least in
+    = ap (λ (l : Laid). length (slot (cell_bytes usable kind leaf l))) same ∙ slot_of_cell usable kind leaf number (next - s.overs) x least in
     record {
       within = omega (arith, lt);
       next_is = before;
       room = omega (arith, st.room, sums.slots_are, end, slot_is, len);
       front = put ∙ ap (λ (t : List ℕ). t ++ slot (cell_bytes usable kind leaf laid)) st.front
-        ∙ append_assoc (take from old) (stack (cells_for usable kind leaf number next (drop (i + 1) items))) (slot (cell_bytes usable kind leaf laid))
-        ∙ ap (λ (l : Laid). take from old ++ (stack (cells_for usable kind leaf number next (drop (i + 1) items)) ++ slot (cell_bytes usable kind leaf l))) same
-        ∙ ap (λ n. take from old ++ (stack (cells_for usable kind leaf number n (drop (i + 1) items)) ++ slot (cell_bytes usable kind leaf (laid_of number (next - s.overs) x)))) (sym behind)
-        ∙ sym (ap (λ (t : List Item). take from old ++ stack (cells_for usable kind leaf number (next - s.overs) t)) (at_head no_item items i lt));
+          ∙ append_assoc (take from old) (stack (cells_for usable kind leaf number next (drop (i + 1) items))) (slot (cell_bytes usable kind leaf laid))
+          ∙ ap (λ (l : Laid). take from old ++ (stack (cells_for usable kind leaf number next (drop (i + 1) items)) ++ slot (cell_bytes usable kind leaf l))) same
+          ∙ ap (λ n. take from old ++ (stack (cells_for usable kind leaf number n (drop (i + 1) items)) ++ slot (cell_bytes usable kind leaf (laid_of number (next - s.overs) x)))) (sym behind)
+          ∙ sym (ap (λ (t : List Item). take from old ++ stack (cells_for usable kind leaf number (next - s.overs) t)) (at_head no_item items i lt));
     }
 
 pub stacking_done : (usable : ℕ) (kind : Kind) (leaf : Bool) (number : ℕ → ℕ) (items : List Item) (first next i : ℕ) (old to : List ℕ) (from at : ℕ)
@@ -219,7 +219,7 @@ stacking_room usable kind leaf number items first next i j old to from at s laid
     let st = subst (λ n. Stacking usable kind leaf number items first next n old to from at) ji sj in
     let sums = cell_sums usable kind leaf items i s (omega (arith, st.within)) is in
     let slot_is : length (slot (cell_bytes usable kind leaf laid)) ≡ slot_for usable kind leaf (get_or items i no_item)
-      = ap (λ (l : Laid). length (slot (cell_bytes usable kind leaf l))) same ∙ slot_of_cell usable kind leaf number (next - s.overs) (get_or items i no_item) least in
+    = ap (λ (l : Laid). length (slot (cell_bytes usable kind leaf l))) same ∙ slot_of_cell usable kind leaf number (next - s.overs) (get_or items i no_item) least in
     omega (arith, st.room, sums.slots_are, slot_is)
 
 -- ---- the whole page
@@ -265,10 +265,10 @@ pub page_done : (front : List ℕ) (type usable : ℕ) (cells : List (List ℕ))
 unfolding page_bytes
 page_done front type usable cells right count start zeros lens t1 t2 t3 t4 e1 e2 e3 e4 c s l z =
     let top : t2 ≡ top_of front type usable cells right
-      = e2 ∙ ap (λ (t : List ℕ). t ++ pointers usable lens) e1 ∙ append_assoc front (header type count start right) (pointers usable lens)
-      ∙ ap (λ n. front ++ (header type n start right ++ pointers usable lens)) c
-      ∙ ap (λ n. front ++ (header type (length cells) n right ++ pointers usable lens)) s
-      ∙ ap (λ (t : List ℕ). front ++ (header type (length cells) (content usable cells) right ++ pointers usable t)) l in
+    = e2 ∙ ap (λ (t : List ℕ). t ++ pointers usable lens) e1 ∙ append_assoc front (header type count start right) (pointers usable lens)
+    ∙ ap (λ n. front ++ (header type n start right ++ pointers usable lens)) c
+    ∙ ap (λ n. front ++ (header type (length cells) n right ++ pointers usable lens)) s
+    ∙ ap (λ (t : List ℕ). front ++ (header type (length cells) (content usable cells) right ++ pointers usable t)) l in
     e4 ∙ ap (λ (t : List ℕ). t ++ stack cells) e3 ∙ append_assoc t2 (replicate zeros 0) (stack cells)
     ∙ ap (λ n. t2 ++ (replicate n 0 ++ stack cells)) (z ∙ ap (λ n. n - length t2) s)
     ∙ ap (λ (t : List ℕ). t ++ (replicate (content usable cells - length t) 0 ++ stack cells)) top

@@ -35,6 +35,7 @@ local_le kind usable total least =
   where
     over : nat_le total (most_local kind usable) ≡ false → least_local usable ≤ total
     over e = let l = least_most kind usable least in let h : most_local kind usable < total = grind (arith, nat_tests) in omega arith
+
     mod_le : (n m : ℕ) → n % m ≤ n
     mod_le n m = omega arith
 
@@ -90,8 +91,14 @@ pub length-cell : (usable : ℕ) (kind : Kind) (leaf : Bool) (number : ℕ → �
 unfolding cell_bytes cell_len
 length-cell usable kind leaf number k x least =
     let c = laid_of number k x in
-    omega (arith, length-append (head_part kind leaf c) (payload_part usable kind c), length-append (child_part leaf c.child) (number_part kind leaf c),
-      length-child leaf c.child, length-number kind leaf c x.entry.rowid refl, length-payload usable kind c least)
+    omega (
+      arith,
+      length-append (head_part kind leaf c) (payload_part usable kind c),
+      length-append (child_part leaf c.child) (number_part kind leaf c),
+      length-child leaf c.child,
+      length-number kind leaf c x.entry.rowid refl,
+      length-payload usable kind c least,
+    )
 
 pub length-slot : (cell : List ℕ) → slot_size cell ≡ slot_len (length cell)
 length-slot cell = omega (arith, length-append cell (replicate (4 - length cell) 0), length-replicate {A = ℕ} (4 - length cell) 0)

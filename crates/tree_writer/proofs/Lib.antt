@@ -10,3 +10,4 @@ pub mod Needs
 pub mod Adding
 pub mod Raising
 pub mod Planning
+pub mod Writing

@@ -70,7 +70,7 @@ over_some : (usable : ℕ) (kind : Kind) (total : ℕ) → 512 ≤ usable → lo
 unfolding local_len
 over_some usable kind total least lt =
     let e = over_pick (nat_le total (most_local kind usable)) (nat_le (least_local usable + (total - least_local usable) % (usable - 4)) (most_local kind usable))
-      total (least_local usable + (total - least_local usable) % (usable - 4)) (least_local usable) lt in
+    total (least_local usable + (total - least_local usable) % (usable - 4)) (least_local usable) lt in
     let h : most_local kind usable < total = grind (arith, nat_tests) in
     omega (arith, many kind)
   where
@@ -101,8 +101,9 @@ entry_pages usable kind e least some =
     let n : ℕ = length e.bytes - kept + (usable - 5) in
     let d = div-mul-le_self n (usable - 4) in
     elim (same_or_less kept (length e.bytes) (local_le kind usable (length e.bytes) least')) [
-      inl same ↦ let none : n / (usable - 4) ≡ 0 = small_div (n / (usable - 4)) (usable - 4) (omega (arith, d, same)) in omega (arith, none)
-    | inr less ↦ let q : 16 * (n / (usable - 4)) ≤ length e.bytes = over_most (n / (usable - 4)) (usable - 4) n (length e.bytes) (omega arith) (over_some usable kind (length e.bytes) least less) (omega arith) d in omega (arith, q) ]
+      | inl same ↦ let none : n / (usable - 4) ≡ 0 = small_div (n / (usable - 4)) (usable - 4) (omega (arith, d, same)) in omega (arith, none)
+      | inr less ↦ let q : 16 * (n / (usable - 4)) ≤ length e.bytes = over_most (n / (usable - 4)) (usable - 4) n (length e.bytes) (omega arith) (over_some usable kind (length e.bytes) least less) (omega arith) d in omega (arith, q)
+    ]
 
 pub entries_pages : (usable : ℕ) (kind : Kind) (es : List Entry) → 512 ≤ usable → AllByRecursion HasBytes es
     → 16 * (2 * length es + overs usable kind (map leaf_item es)) ≤ sum_by weight es

@@ -39,8 +39,8 @@ highest usable kind top es plans t r =
     let n : length plans - t.base - 1 ≡ length line.cells = omega (arith, len, r.base, ap length cells, length-map ps (inner_item kind es), length-append line.cells (lo.last ∷ [])) in
     let f = inner_item kind es in
     let last : f (plan_at plans (t.base + (length plans - t.base - 1))) ≡ lo.last
-      = sym (ap f (get_or-drop t.base plans (length plans - t.base - 1) no_page)) ∙ sym (get_or-map f ps (length plans - t.base - 1) no_page)
-      ∙ ap (λ xs. get_or xs (length plans - t.base - 1) (f no_page)) cells ∙ ap (λ m. get_or (line.cells ++ lo.last ∷ []) m (f no_page)) n ∙ get_here line.cells lo.last [] (f no_page) in
+    = sym (ap f (get_or-drop t.base plans (length plans - t.base - 1) no_page)) ∙ sym (get_or-map f ps (length plans - t.base - 1) no_page)
+    ∙ ap (λ xs. get_or xs (length plans - t.base - 1) (f no_page)) cells ∙ ap (λ m. get_or (line.cells ++ lo.last ∷ []) m (f no_page)) n ∙ get_here line.cells lo.last [] (f no_page) in
     record {
       cells = sym (take-map f (length plans - t.base - 1) ps) ∙ ap (take (length plans - t.base - 1)) cells ∙ ap (λ m. take m (line.cells ++ lo.last ∷ [])) n ∙ take-append_seam line.cells (lo.last ∷ []);
       right = ap (λ (x : Item). x.child) last ∙ lo.right ∙ ap (λ (l : Line). l.right) r.line;
@@ -77,7 +77,7 @@ one_leaf usable es p least most entries fits u k l pages first count root =
     let whole : take (length es) es ≡ es = take_all (length es) es (omega arith) in
     let page : PagePlan = record { index = 0; first = 0; cells = length es; behind = 0 } in
     let shows : sheet_for Table es [] true page ≡ record { leaf = true; items = map leaf_item es; right = 0 }
-      = let g : List Item → Sheet = λ xs. record { leaf = true; items = xs; right = 0 } in ap (λ (t : List Entry). g (map leaf_item t)) whole in
+    = let g : List Item → Sheet = λ xs. record { leaf = true; items = xs; right = 0 } in ap (λ (t : List Entry). g (map leaf_item t)) whole in
     record {
       least = least;
       most = most;
@@ -85,17 +85,17 @@ one_leaf usable es p least most entries fits u k l pages first count root =
       usable_is = u;
       kind_is = k;
       laid = subst (IsLaid usable Table es p.leaves p.pages.items) (sym sheets)
-        (subst (λ n. IsLaid usable Table es n p.pages.items []) (sym l)
-        (subst (λ (t : List PagePlan). IsLaid usable Table es 0 t []) (sym pages)
+          (subst (λ n. IsLaid usable Table es n p.pages.items []) (sym l)
+          (subst (λ (t : List PagePlan). IsLaid usable Table es 0 t []) (sym pages)
           (record { sheets_are = refl; starts = refl; leaves_there = tt; inner_there = tt; least = omega arith; fits = tt })));
       first = subst (IsFirst es p.pages.items (schema_top usable es) (pages_in usable Table (schema_sheets usable es))) (sym first)
-        (subst (λ (t : List PagePlan). IsFirst es t (schema_top usable es) (pages_in usable Table (schema_sheets usable es)) (Some page)) (sym pages)
-        (subst (λ (s : Sheet). IsFirst es [] s (pages_in usable Table (schema_sheets usable es)) (Some page)) (sym top)
-        (subst (λ (t : List Sheet). IsFirst es [] (record { leaf = true; items = map leaf_item es; right = 0 }) (pages_in usable Table t) (Some page)) (sym sheets)
+          (subst (λ (t : List PagePlan). IsFirst es t (schema_top usable es) (pages_in usable Table (schema_sheets usable es)) (Some page)) (sym pages)
+          (subst (λ (s : Sheet). IsFirst es [] s (pages_in usable Table (schema_sheets usable es)) (Some page)) (sym top)
+          (subst (λ (t : List Sheet). IsFirst es [] (record { leaf = true; items = map leaf_item es; right = 0 }) (pages_in usable Table t) (Some page)) (sym sheets)
           (refl, shows, omega arith))));
       leaf = ap (λ (s : Sheet). s.leaf) top ∙ sym (ap (λ (t : List PagePlan). nat_eq (length t) 0) pages);
       count = count ∙ sym (ap (λ (t : List Sheet). 1 + pages_in usable Table t + overs usable Table (schema_top usable es).items) sheets
-        ∙ ap (λ (s : Sheet). 1 + 0 + overs usable Table s.items) top);
+          ∙ ap (λ (s : Sheet). 1 + 0 + overs usable Table s.items) top);
       root = root;
       short = let few = few_entries usable Table es least entries in omega (arith, count, some_pages usable Table es few.pages);
       fits = subst (λ (s : Sheet). 100 + needs usable Table s.leaf s.items ≤ room_in usable s.leaf) (sym top) (omega (arith, fits));
@@ -124,8 +124,8 @@ more_pages usable es p t least most entries over r u k l first count root =
     let h = highest usable Table (first_room usable false) es plans t r' in
     let page : PagePlan = record { index = t.index; first = t.base; cells = length plans - t.base - 1; behind = 0 } in
     let shows : sheet_for Table es plans false page ≡ record { leaf = false; items = line.cells; right = line.right }
-      = let g : List Item → ℕ → Sheet = λ xs n. record { leaf = false; items = xs; right = n } in
-        ap (λ (xs : List Item). g xs (plan_at plans (t.base + (length plans - t.base - 1))).index) h.cells ∙ ap (g line.cells) h.right in
+    = let g : List Item → ℕ → Sheet = λ xs n. record { leaf = false; items = xs; right = n } in
+    ap (λ (xs : List Item). g xs (plan_at plans (t.base + (length plans - t.base - 1))).index) h.cells ∙ ap (g line.cells) h.right in
     let alone : overs usable Table line.cells ≡ 0 = sym (ap (overs usable Table) h.cells) ∙ keys_alone usable es (take (length plans - t.base - 1) (drop t.base plans)) (omega arith) in
     record {
       least = least;
@@ -135,8 +135,8 @@ more_pages usable es p t least most entries over r u k l first count root =
       kind_is = k;
       laid = subst (IsLaid usable Table es p.leaves plans) (sym sheets) (subst (λ n. IsLaid usable Table es n plans (tree_sheets usable Table (first_room usable false) es)) (sym l) r'.laid);
       first = subst (IsFirst es plans (schema_top usable es) (pages_in usable Table (schema_sheets usable es))) (sym first)
-        (subst (λ (s : Sheet). IsFirst es plans s (pages_in usable Table (schema_sheets usable es)) (Some page)) (sym top)
-        (subst (λ (ss : List Sheet). IsFirst es plans (record { leaf = false; items = line.cells; right = line.right }) (pages_in usable Table ss) (Some page)) (sym sheets)
+          (subst (λ (s : Sheet). IsFirst es plans s (pages_in usable Table (schema_sheets usable es)) (Some page)) (sym top)
+          (subst (λ (ss : List Sheet). IsFirst es plans (record { leaf = false; items = line.cells; right = line.right }) (pages_in usable Table ss) (Some page)) (sym sheets)
           (r'.index, shows, (omega (arith, r'.base), λ i lt. r'.behind i (omega (arith, lt))))));
       leaf = ap (λ (s : Sheet). s.leaf) top ∙ sym (none plans (omega (arith, r'.base)));
       count = count ∙ omega (arith, r'.index, ap (pages_in usable Table) sheets, ap (λ (s : Sheet). overs usable Table s.items) top, alone);
@@ -147,5 +147,6 @@ more_pages usable es p t least most entries over r u k l first count root =
   where
     above : (a b : ℕ) → b < a → nat_le a b ≡ false
     above a b lt = grind (arith, nat_tests)
+
     none : (xs : List PagePlan) → 1 ≤ length xs → nat_eq (length xs) 0 ≡ false
     none xs some = grind (arith, nat_tests)

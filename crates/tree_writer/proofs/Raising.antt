@@ -34,18 +34,19 @@ sheet_kept kind es plans more true p there = refl
 sheet_kept kind es plans more false p there =
     let g : List Item → ℕ → Sheet = λ xs n. record { leaf = false; items = xs; right = n } in
     let part : take p.cells (drop p.first (plans ++ more)) ≡ take p.cells (drop p.first plans)
-      = ap (take p.cells) (drop-append-le p.first plans more (omega (arith, there.0)))
-      ∙ take-append-le p.cells (drop p.first plans) more (omega (arith, there.0, length-drop p.first plans)) in
+    = ap (take p.cells) (drop-append-le p.first plans more (omega (arith, there.0)))
+    ∙ take-append-le p.cells (drop p.first plans) more (omega (arith, there.0, length-drop p.first plans)) in
     let right : (plan_at (plans ++ more) (p.first + p.cells)).index ≡ (plan_at plans (p.first + p.cells)).index
-      = ap (λ (q : PagePlan). q.index) (get_or-append plans more no_page (p.first + p.cells) there.0) in
+    = ap (λ (q : PagePlan). q.index) (get_or-append plans more no_page (p.first + p.cells) there.0) in
     ap (λ (t : List PagePlan). g (map (inner_item kind es) t) (plan_at (plans ++ more) (p.first + p.cells)).index) part
     ∙ ap (g (map (inner_item kind es) (take p.cells (drop p.first plans)))) right
 
 there_kept : (es : List Entry) (plans more : List PagePlan) (leaf : Bool) (p : PagePlan) → AreThere es plans leaf p → AreThere es (plans ++ more) leaf p
 there_kept es plans more true p there = there
-there_kept es plans more false p there =
-    (omega (arith, there.0, length-append plans more),
-      λ i lt. subst (λ (q : PagePlan). q.behind < length es) (sym (get_or-append plans more no_page (p.first + i) (omega (arith, there.0)))) (there.1 i lt))
+there_kept es plans more false p there = (
+  omega (arith, there.0, length-append plans more),
+  λ i lt. subst (λ (q : PagePlan). q.behind < length es) (sym (get_or-append plans more no_page (p.first + i) (omega (arith, there.0)))) (there.1 i lt),
+)
 
 sheets_kept : (kind : Kind) (es : List Entry) (plans more : List PagePlan) (leaf : Bool) (ps : List PagePlan) → AllByRecursion (AreThere es plans leaf) ps
     → map (sheet_for kind es (plans ++ more) leaf) ps ≡ map (sheet_for kind es plans leaf) ps
@@ -70,8 +71,8 @@ starts-append : (usable : ℕ) (kind : Kind) (k : ℕ) (xs ys : List Sheet) → 
 starts-append usable kind k [] ys = ap (λ n. starts_from usable kind n ys) (omega arith)
 starts-append usable kind k (s ∷ ss) ys =
     ap (λ (t : List ℕ). k ∷ t) (starts-append usable kind (k + width_of usable kind s.items) ss ys
-      ∙ ap (λ n. starts_from usable kind (k + width_of usable kind s.items) ss ++ starts_from usable kind n ys)
-        (omega (arith, sum_by-cons (λ (t : Sheet). width_of usable kind t.items) s ss)))
+    ∙ ap (λ n. starts_from usable kind (k + width_of usable kind s.items) ss ++ starts_from usable kind n ys)
+    (omega (arith, sum_by-cons (λ (t : Sheet). width_of usable kind t.items) s ss)))
 
 -- a plan with a level more
 pub laid_more : (usable : ℕ) (kind : Kind) (es : List Entry) (leaves : ℕ) (plans more : List PagePlan) (sheets added : List Sheet) → IsLaid usable kind es leaves plans sheets
@@ -83,20 +84,20 @@ laid_more usable kind es leaves plans more sheets added l new there starts fits 
     let back : drop leaves (plans ++ more) ≡ drop leaves plans ++ more = drop-append-le leaves plans more l.least in
     record {
       sheets_are =
-        ap (λ (t : List PagePlan). map (sheet_for kind es (plans ++ more) true) t ++ map (sheet_for kind es (plans ++ more) false) (drop leaves (plans ++ more))) front
-        ∙ ap (λ (t : List PagePlan). map (sheet_for kind es (plans ++ more) true) (take leaves plans) ++ map (sheet_for kind es (plans ++ more) false) t) back
-        ∙ ap (λ (t : List Sheet). t ++ map (sheet_for kind es (plans ++ more) false) (drop leaves plans ++ more)) (sheets_kept kind es plans more true (take leaves plans) l.leaves_there)
-        ∙ ap (λ (t : List Sheet). map (sheet_for kind es plans true) (take leaves plans) ++ t)
+          ap (λ (t : List PagePlan). map (sheet_for kind es (plans ++ more) true) t ++ map (sheet_for kind es (plans ++ more) false) (drop leaves (plans ++ more))) front
+          ∙ ap (λ (t : List PagePlan). map (sheet_for kind es (plans ++ more) true) (take leaves plans) ++ map (sheet_for kind es (plans ++ more) false) t) back
+          ∙ ap (λ (t : List Sheet). t ++ map (sheet_for kind es (plans ++ more) false) (drop leaves plans ++ more)) (sheets_kept kind es plans more true (take leaves plans) l.leaves_there)
+          ∙ ap (λ (t : List Sheet). map (sheet_for kind es plans true) (take leaves plans) ++ t)
           (map-append (sheet_for kind es (plans ++ more) false) (drop leaves plans) more
-            ∙ ap (λ (t : List Sheet). t ++ map (sheet_for kind es (plans ++ more) false) more) (sheets_kept kind es plans more false (drop leaves plans) l.inner_there)
-            ∙ ap (λ (t : List Sheet). map (sheet_for kind es plans false) (drop leaves plans) ++ t) (sheets_kept kind es plans more false more there ∙ new))
-        ∙ sym (append_assoc (map (sheet_for kind es plans true) (take leaves plans)) (map (sheet_for kind es plans false) (drop leaves plans)) added)
-        ∙ ap (λ (t : List Sheet). t ++ added) l.sheets_are;
+          ∙ ap (λ (t : List Sheet). t ++ map (sheet_for kind es (plans ++ more) false) more) (sheets_kept kind es plans more false (drop leaves plans) l.inner_there)
+          ∙ ap (λ (t : List Sheet). map (sheet_for kind es plans false) (drop leaves plans) ++ t) (sheets_kept kind es plans more false more there ∙ new))
+          ∙ sym (append_assoc (map (sheet_for kind es plans true) (take leaves plans)) (map (sheet_for kind es plans false) (drop leaves plans)) added)
+          ∙ ap (λ (t : List Sheet). t ++ added) l.sheets_are;
       starts = map-append index_of plans more ∙ ap (λ (t : List ℕ). t ++ map index_of more) l.starts ∙ ap (λ (t : List ℕ). starts_from usable kind 0 sheets ++ t) starts
-        ∙ ap (λ n. starts_from usable kind 0 sheets ++ starts_from usable kind n added) (omega arith) ∙ sym (starts-append usable kind 0 sheets added);
+          ∙ ap (λ n. starts_from usable kind 0 sheets ++ starts_from usable kind n added) (omega arith) ∙ sym (starts-append usable kind 0 sheets added);
       leaves_there = subst (AllByRecursion (AreThere es (plans ++ more) true)) (sym front) (all_kept es plans more true (take leaves plans) l.leaves_there);
       inner_there = subst (AllByRecursion (AreThere es (plans ++ more) false)) (sym back)
-        (all_append (AreThere es (plans ++ more) false) (drop leaves plans) more (all_kept es plans more false (drop leaves plans) l.inner_there) (all_kept es plans more false more there));
+          (all_append (AreThere es (plans ++ more) false) (drop leaves plans) more (all_kept es plans more false (drop leaves plans) l.inner_there) (all_kept es plans more false more there));
       least = omega (arith, l.least, length-append plans more);
       fits = all_append (SheetFits usable kind) sheets added l.fits fits;
     }
@@ -178,16 +179,16 @@ next_level usable kind top es leaves base index plans least g some =
     let e : drop 0 (below kind es plans base) ≡ flat_from cut.firsts cut.last ++ lo.last ∷ [] = cells ∙ ap (λ (t : List Item). t ++ lo.last ∷ []) (sym flat_is) in
     let right : lo.last.child ≡ g.line.right = lo.right ∙ ap (λ (l : Line). l.right) g.line_is in
     let half = all_left (λ (x : Item). 2 * need_of usable kind false x ≤ room_in usable false) g.line.cells (lo.last ∷ [])
-      (subst (AllByRecursion (λ (x : Item). 2 * need_of usable kind false x ≤ room_in usable false)) cells (line_half usable kind es (drop base plans) least)) in
+    (subst (AllByRecursion (λ (x : Item). 2 * need_of usable kind false x ≤ room_in usable false)) cells (line_half usable kind es (drop base plans) least)) in
     record {
       shows = subst (λ n. Shows usable kind es plans false index (level_plans plans base index (item_spans usable kind 1 0 cut.firsts cut.last)) cut.firsts cut.last n) right
-        (level_shown usable kind es plans base cut.firsts cut.last lo.last 0 index e
+          (level_shown usable kind es plans base cut.firsts cut.last lo.last 0 index e
           (λ j lt. g.behinds j (omega (arith, lt, length-map (drop base plans) (inner_item kind es), length-drop base plans))));
       few = let h = cuts_few (need_of usable kind false) (room_in usable false) [] (room_in usable false) g.line.cells tt half (omega arith) (omega (arith, some)) in omega (arith, h);
       flat_is = flat_is;
       fits =
-        let f = cuts_fit (need_of usable kind false) (room_in usable false) [] (room_in usable false) g.line.cells (half_each (need_of usable kind false) (room_in usable false) g.line.cells half) (omega arith) in
-        sheets_fit usable kind false cut.firsts cut.last g.line.right f.firsts f.last;
+          let f = cuts_fit (need_of usable kind false) (room_in usable false) [] (room_in usable false) g.line.cells (half_each (need_of usable kind false) (room_in usable false) g.line.cells half) (omega arith) in
+          sheets_fit usable kind false cut.firsts cut.last g.line.right f.firsts f.last;
     }
 
 -- a level more, where the line does not fit
@@ -200,7 +201,7 @@ step_all usable kind top (suc m) line some full = (m, refl, (rw full refl), (rw 
 pub grows_more : (usable : ℕ) (kind : Kind) (top : ℕ) (es : List Entry) (leaves base index : ℕ) (plans : List PagePlan) → 480 ≤ usable
     → (g : Grows usable kind top es leaves base index plans) → 1 ≤ length g.line.cells → nat_le (needs usable kind false g.line.cells) top ≡ false
     → let spans = item_spans usable kind 1 0 (level_cut usable kind g.line).firsts (level_cut usable kind g.line).last in
-      Grows usable kind top es leaves (length plans) (index + sum_by span_pages spans) (plans ++ level_plans plans base index spans)
+    Grows usable kind top es leaves (length plans) (index + sum_by span_pages spans) (plans ++ level_plans plans base index spans)
 grows_more usable kind top es leaves base index plans least g some full =
     let cut = level_cut usable kind g.line in
     let spans = item_spans usable kind 1 0 cut.firsts cut.last in
@@ -224,13 +225,13 @@ grows_more usable kind top es leaves base index plans least g some full =
       sheets = g.sheets ++ added;
       fuel = s.0;
       line_is = ap (line_of kind es (index + sum_by span_pages spans)) (drop-append_seam plans news)
-        ∙ ap (λ m. line_of kind es m news) (sym index_next) ∙ n.shows.line;
+          ∙ ap (λ m. line_of kind es m news) (sym index_next) ∙ n.shows.line;
       enough = omega (arith, len_line, n.few, g.enough, s.1);
       laid = laid_more usable kind es leaves plans news g.sheets added g.laid n.shows.sheets n.shows.there
-        (n.shows.starts ∙ ap (λ m. starts_from usable kind m added) g.index_is) n.fits;
+          (n.shows.starts ∙ ap (λ m. starts_from usable kind m added) g.index_is) n.fits;
       all = append_assoc g.sheets added (level_sheets usable kind top s.0 (line_from w index cut.firsts cut.last))
-        ∙ sym (ap (λ (l : Line). g.sheets ++ (added ++ level_sheets usable kind top s.0 l)) above)
-        ∙ sym (ap (λ (t : List Sheet). g.sheets ++ t) s.2) ∙ g.all;
+          ∙ sym (ap (λ (l : Line). g.sheets ++ (added ++ level_sheets usable kind top s.0 l)) above)
+          ∙ sym (ap (λ (t : List Sheet). g.sheets ++ t) s.2) ∙ g.all;
       top_is = sym (ap (top_line usable kind top s.0) above) ∙ sym s.3 ∙ g.top_is;
       index_is = omega (arith, index_next, pages_next, g.index_is, sum_by-append (λ (t : Sheet). width_of usable kind t.items) g.sheets added);
       lens = omega (arith, len_line, len_news, length-append plans news);
@@ -260,16 +261,16 @@ leaf_level usable Table es least =
     let room = room_in usable true in
     let all : joined_from cut.firsts cut.last ≡ map leaf_item es = leaves_joined (need_of usable Table true) key_item no_item room [] room (map leaf_item es) in
     let keyed = leaves_keyed (need_of usable Table true) key_item no_item room [] room (map leaf_item es)
-      (all_items (λ x. need_of usable Table true x ≤ room) (λ e. leaf_fits usable Table (leaf_item e) least) es) (omega arith) in
+    (all_items (λ x. need_of usable Table true x ≤ room) (λ e. leaf_fits usable Table (leaf_item e) least) es) (omega arith) in
     record {
       spans_are = refl;
       shows = λ plans. table_leaves usable es plans cut.firsts cut.last 0 0 (sym all) keyed (omega arith);
       few = omega (arith, leaves_few (need_of usable Table true) key_item no_item room [] room (map leaf_item es), length-map es leaf_item);
       overs_are = keyed_overs usable 0 cut.firsts cut.last least keyed ∙ ap (overs usable Table) all;
       fits =
-        let f = leaves_fit (need_of usable Table true) key_item no_item room [] room (map leaf_item es)
+          let f = leaves_fit (need_of usable Table true) key_item no_item room [] room (map leaf_item es)
           (all_items (λ x. need_of usable Table true x ≤ room) (λ e. leaf_fits usable Table (leaf_item e) least) es) (omega arith) in
-        sheets_fit usable Table true cut.firsts cut.last 0 f.firsts f.last;
+          sheets_fit usable Table true cut.firsts cut.last 0 f.firsts f.last;
     }
 leaf_level usable Index es least =
     let cut = leaf_cut usable Index es in
@@ -281,17 +282,17 @@ leaf_level usable Index es least =
       few = few es;
       overs_are = line_overs usable Index 0 cut.firsts cut.last ∙ ap (overs usable Index) all;
       fits =
-        let f = cuts_fit (need_of usable Index true) room [] room (map leaf_item es)
+          let f = cuts_fit (need_of usable Index true) room [] room (map leaf_item es)
           (all_items (λ x. need_of usable Index true x ≤ room) (λ e. leaf_fits usable Index (leaf_item e) least) es) (omega arith) in
-        sheets_fit usable Index true cut.firsts cut.last 0 f.firsts f.last;
+          sheets_fit usable Index true cut.firsts cut.last 0 f.firsts f.last;
     }
   where
     few : (xs : List Entry) → length (leaf_cut usable Index xs).firsts ≤ length xs
     few [] = omega arith
     few (x ∷ xs) =
-      let room = room_in usable true in
-      let half = all_items (λ y. 2 * need_of usable Index true y ≤ room) (λ e. let h = index_half usable true (leaf_item e) least in omega (arith, h)) (x ∷ xs) in
-      omega (arith, cuts_few (need_of usable Index true) room [] room (map leaf_item (x ∷ xs)) tt half (omega arith) (omega arith), length-map xs leaf_item)
+        let room = room_in usable true in
+        let half = all_items (λ y. 2 * need_of usable Index true y ≤ room) (λ e. let h = index_half usable true (leaf_item e) least in omega (arith, h)) (x ∷ xs) in
+        omega (arith, cuts_few (need_of usable Index true) room [] room (map leaf_item (x ∷ xs)) tt half (omega arith) (omega arith), length-map xs leaf_item)
 
 pub grows_start : (usable : ℕ) (kind : Kind) (top : ℕ) (es : List Entry) (spans : List Span) (plans : List PagePlan) → LeafLevel usable kind es spans → plans ≡ leaf_plans kind 0 spans
     → Grows usable kind top es (length plans) 0 (sum_by span_pages spans) plans
@@ -301,7 +302,7 @@ grows_start usable kind top es spans plans l is =
     let w = width_of usable kind in
     let sh : Shows usable kind es plans true 0 plans cut.firsts cut.last 0 = subst (λ ps. Shows usable kind es plans true 0 ps cut.firsts cut.last 0) (sym is) (l.shows plans) in
     let index_next : (line_from w 0 cut.firsts cut.last).next ≡ sum_by span_pages spans
-      = line_next usable kind (gap_of kind) 0 0 cut.firsts cut.last ∙ ap (λ (t : List Span). 0 + sum_by span_pages t) (sym l.spans_are) ∙ omega arith in
+    = line_next usable kind (gap_of kind) 0 0 cut.firsts cut.last ∙ ap (λ (t : List Span). 0 + sum_by span_pages t) (sym l.spans_are) ∙ omega arith in
     let pages_next = line_pages usable kind true 0 cut.firsts cut.last 0 in
     let whole : take (length plans) plans ≡ plans = take_all (length plans) plans (omega arith) in
     let none : drop (length plans) plans ≡ [] = at_end plans (length plans) (omega arith) in
@@ -316,8 +317,8 @@ grows_start usable kind top es spans plans l is =
       enough = omega arith;
       laid = record {
         sheets_are = ap (λ (t : List PagePlan). map (sheet_for kind es plans true) t ++ map (sheet_for kind es plans false) (drop (length plans) plans)) whole
-          ∙ ap (λ (t : List PagePlan). map (sheet_for kind es plans true) plans ++ map (sheet_for kind es plans false) t) none
-          ∙ append-nil (map (sheet_for kind es plans true) plans) ∙ sh.sheets;
+            ∙ ap (λ (t : List PagePlan). map (sheet_for kind es plans true) plans ++ map (sheet_for kind es plans false) t) none
+            ∙ append-nil (map (sheet_for kind es plans true) plans) ∙ sh.sheets;
         starts = sh.starts;
         leaves_there = subst (AllByRecursion (AreThere es plans true)) (sym whole) sh.there;
         inner_there = subst (AllByRecursion (AreThere es plans false)) (sym none) tt;
@@ -357,8 +358,8 @@ grows_end usable kind top es leaves base index plans least entries g fits =
       few = omega (arith, g.overs_are, g.bound, few.pages);
       short = omega (arith, g.bound, few.pages);
       fits =
-        let le : needs usable kind false g.line.cells ≤ top = below_top (needs usable kind false g.line.cells) top fits in
-        omega (arith, le, ap (λ (l : Line). needs usable kind false l.cells) (sym s.1 ∙ g.top_is));
+          let le : needs usable kind false g.line.cells ≤ top = below_top (needs usable kind false g.line.cells) top fits in
+          omega (arith, le, ap (λ (l : Line). needs usable kind false l.cells) (sym s.1 ∙ g.top_is));
     }
   where
     below_top : (a b : ℕ) → nat_le a b ≡ true → a ≤ b
@@ -401,7 +402,7 @@ line_sizes_fit usable kind top es leaves base index plans least entries g some =
     let lo = line_over_some kind es index (drop base plans) (omega (arith, g.lens, length-drop base plans)) in
     let cells : map (inner_item kind es) (drop base plans) ≡ g.line.cells ++ lo.last ∷ [] = lo.cells ∙ ap (λ (l : Line). l.cells ++ lo.last ∷ []) g.line_is in
     let half = all_left (λ (x : Item). 2 * need_of usable kind false x ≤ room_in usable false) g.line.cells (lo.last ∷ [])
-      (subst (AllByRecursion (λ (x : Item). 2 * need_of usable kind false x ≤ room_in usable false)) cells (line_half usable kind es (drop base plans) (omega arith))) in
+    (subst (AllByRecursion (λ (x : Item). 2 * need_of usable kind false x ≤ room_in usable false)) cells (line_half usable kind es (drop base plans) (omega arith))) in
     record {
       few = omega (arith, g.bound, few.pages, g.lens, length-map g.line.cells (size_item usable kind false));
       fit = fit_each usable kind false (room_in usable false) g.line.cells (half_each (need_of usable kind false) (room_in usable false) g.line.cells half);
@@ -451,7 +452,7 @@ line_takes usable kind top es leaves base index end plans sizes least entries g 
       needs_are = sums;
       short = omega (arith, ap length same, length-map g.line.cells (size_item usable kind false), g.bound, few.pages, g.lens);
       can_cut = λ lt. subst (AreSizes (usable - 12)) (sym same)
-        (line_sizes_fit usable kind top es leaves base index plans least entries g (some_cells (need_of usable kind false) top g.line.cells (omega (arith, lt, sums))));
+          (line_sizes_fit usable kind top es leaves base index plans least entries g (some_cells (need_of usable kind false) top g.line.cells (omega (arith, lt, sums))));
     }
 
 level_ends : (es : List Entry) (plans : List PagePlan) (base k : ℕ) (spans : List Span) → AllByRecursion (AreThere es plans false) (level_plans plans base k spans)
@@ -465,7 +466,7 @@ pub record NextTurn (usable : ℕ) (kind : Kind) (top : ℕ) (es : List Entry) (
   pub small : length plans < 2 ^ 32
   pub ends : (i : ℕ) → i < length spans → base + (span_at spans i).first + (span_at spans i).cells < length plans
   pub next : (index' : ℕ) (plans' : List PagePlan) → plans' ≡ plans ++ level_plans plans base index spans → index' ≡ index + sum_by span_pages spans
-    → Grows usable kind top es leaves (end + 1) index' plans'
+      → Grows usable kind top es leaves (end + 1) index' plans'
   pub smaller : (plans' : List PagePlan) → plans' ≡ plans ++ level_plans plans base index spans → length plans' - (end + 1) < length plans - base
 
 pub next_turn : (usable : ℕ) (kind : Kind) (top : ℕ) (es : List Entry) (leaves base index end : ℕ) (plans : List PagePlan) (sizes : List Size) (spans : List Span) → 512 ≤ usable → AreEntries es
@@ -477,26 +478,26 @@ next_turn usable kind top es leaves base index end plans sizes spans least entri
     let some = some_cells (need_of usable kind false) top g.line.cells (omega (arith, lt, l.needs_are)) in
     let full : nat_le (needs usable kind false g.line.cells) top ≡ false = over (needs usable kind false g.line.cells) top (omega (arith, lt, l.needs_are)) in
     let same : spans ≡ made = is ∙ ap (λ (t : List Size). spans_of 1 0 (cuts need_in (usable - 12) [] (usable - 12) t)) l.sizes_are
-      ∙ spans_cut usable kind false 1 0 cut _ (cuts_same usable kind false (room_in usable false) [] (room_in usable false) g.line.cells) in
+    ∙ spans_cut usable kind false 1 0 cut _ (cuts_same usable kind false (room_in usable false) [] (room_in usable false) g.line.cells) in
     let least' : 480 ≤ usable = omega arith in
     let n = next_level usable kind top es leaves base index plans least' g some in
     let more : Grows usable kind top es leaves (length plans) (index + sum_by span_pages made) (plans ++ level_plans plans base index made) = grows_more usable kind top es leaves base index plans least' g some full in
     let few = few_entries usable kind es least entries in
     let len : length (level_plans plans base index made) ≡ length cut.firsts + 1
-      = sym (length-map (level_plans plans base index made) (sheet_for kind es plans false)) ∙ ap length n.shows.sheets ∙ sheets_len false cut.firsts cut.last g.line.right in
+    = sym (length-map (level_plans plans base index made) (sheet_for kind es plans false)) ∙ ap length n.shows.sheets ∙ sheets_len false cut.firsts cut.last g.line.right in
     record {
       few = omega (arith, ap (sum_by span_pages) same, more.overs_are, more.bound, few.pages);
       small = omega (arith, g.bound, few.pages);
       ends = subst (λ (t : List Span). (i : ℕ) → i < length t → base + (span_at t i).first + (span_at t i).cells < length plans) (sym same) (level_ends es plans base index made n.shows.there);
       next = λ index' plans' p i.
-        let p' : plans' ≡ plans ++ level_plans plans base index made = p ∙ ap (λ (t : List Span). plans ++ level_plans plans base index t) same in
-        let i' : index' ≡ index + sum_by span_pages made = i ∙ ap (λ (t : List Span). index + sum_by span_pages t) same in
-        subst (λ (t : List PagePlan). Grows usable kind top es leaves (end + 1) index' t) (sym p')
-        (subst (λ m. Grows usable kind top es leaves (end + 1) m (plans ++ level_plans plans base index made)) (sym i')
-        (subst (λ m. Grows usable kind top es leaves m (index + sum_by span_pages made) (plans ++ level_plans plans base index made)) (sym e) more));
+          let p' : plans' ≡ plans ++ level_plans plans base index made = p ∙ ap (λ (t : List Span). plans ++ level_plans plans base index t) same in
+          let i' : index' ≡ index + sum_by span_pages made = i ∙ ap (λ (t : List Span). index + sum_by span_pages t) same in
+          subst (λ (t : List PagePlan). Grows usable kind top es leaves (end + 1) index' t) (sym p')
+          (subst (λ m. Grows usable kind top es leaves (end + 1) m (plans ++ level_plans plans base index made)) (sym i')
+          (subst (λ m. Grows usable kind top es leaves m (index + sum_by span_pages made) (plans ++ level_plans plans base index made)) (sym e) more));
       smaller = λ plans' p.
-        let p' : plans' ≡ plans ++ level_plans plans base index made = p ∙ ap (λ (t : List Span). plans ++ level_plans plans base index t) same in
-        omega (arith, ap length p', length-append plans (level_plans plans base index made), len, n.few, g.lens, e);
+          let p' : plans' ≡ plans ++ level_plans plans base index made = p ∙ ap (λ (t : List Span). plans ++ level_plans plans base index t) same in
+          omega (arith, ap length p', length-append plans (level_plans plans base index made), len, n.few, g.lens, e);
     }
   where
     over : (a b : ℕ) → b < a → nat_le a b ≡ false
@@ -534,14 +535,16 @@ first_turn usable kind es least entries =
 pub first_same : (usable : ℕ) (kind : Kind) (es : List Entry) (sizes : List Size) → sizes ≡ map (size_item usable kind true) (map leaf_item es)
     → (kind ≡ Table → spans_of 0 0 (leaves need_in no_key no_size (usable - 8) [] (usable - 8) sizes) ≡ first_spans usable kind es)
     × (kind ≡ Index → spans_of 1 0 (cuts need_in (usable - 8) [] (usable - 8) sizes) ≡ first_spans usable kind es)
-first_same usable Table es sizes is =
-    ((λ e. ap (λ (t : List Size). spans_of 0 0 (leaves need_in no_key no_size (usable - 8) [] (usable - 8) t)) is
+first_same usable Table es sizes is = (
+  (λ e. ap (λ (t : List Size). spans_of 0 0 (leaves need_in no_key no_size (usable - 8) [] (usable - 8) t)) is
       ∙ spans_cut usable Table true 0 0 (leaf_cut usable Table es) _ (leaves_same usable Table true key_item no_item (room_in usable true) [] (room_in usable true) (map leaf_item es))),
-      (λ e. cc))
-first_same usable Index es sizes is =
-    ((λ e. cc),
-      (λ e. ap (λ (t : List Size). spans_of 1 0 (cuts need_in (usable - 8) [] (usable - 8) t)) is
-        ∙ spans_cut usable Index true 1 0 (leaf_cut usable Index es) _ (cuts_same usable Index true (room_in usable true) [] (room_in usable true) (map leaf_item es))))
+  (λ e. cc),
+)
+first_same usable Index es sizes is = (
+  (λ e. cc),
+  (λ e. ap (λ (t : List Size). spans_of 1 0 (cuts need_in (usable - 8) [] (usable - 8) t)) is
+      ∙ spans_cut usable Index true 1 0 (leaf_cut usable Index es) _ (cuts_same usable Index true (room_in usable true) [] (room_in usable true) (map leaf_item es))),
+)
 
 pub under : (a b : ℕ) → a ≤ b → nat_le a b ≡ true
 under a b le = grind (arith, nat_tests)

@@ -47,16 +47,16 @@ shows_more : (usable : ℕ) (kind : Kind) (es : List Entry) (plans : List PagePl
     → Shows usable kind es plans leaf (k + width_of usable kind f.0) ps fs last right → Shows usable kind es plans leaf k (p ∷ ps) (f ∷ fs) last right
 shows_more usable kind es plans leaf k p ps f fs last right i items r e there inside s =
     let sheet : sheet_for kind es plans leaf p ≡ record { leaf = leaf; items = f.0; right = f.1.child }
-      = let g : List Item → ℕ → Sheet = λ xs n. record { leaf = leaf; items = xs; right = n } in
-        ap (λ (t : List Item). g t (right_index plans leaf p)) items ∙ ap (g f.0) r in
+    = let g : List Item → ℕ → Sheet = λ xs n. record { leaf = leaf; items = xs; right = n } in
+    ap (λ (t : List Item). g t (right_index plans leaf p)) items ∙ ap (g f.0) r in
     let item : inner_item kind es p ≡ record { child = k; entry = f.1.entry }
-      = let g : ℕ → Entry → Item = λ n x. record { child = n; entry = x } in
-        ap (λ n. g n (part_of kind false (entry_at es p.behind))) i ∙ ap (g k) e in
+    = let g : ℕ → Entry → Item = λ n x. record { child = n; entry = x } in
+    ap (λ n. g n (part_of kind false (entry_at es p.behind))) i ∙ ap (g k) e in
     let w = width_of usable kind in
     record {
       sheets = ap (λ (t : Sheet). t ∷ map (sheet_for kind es plans leaf) ps) sheet ∙ ap (λ (t : List Sheet). record { leaf = leaf; items = f.0; right = f.1.child } ∷ t) s.sheets;
       line = line_cons kind es (line_from w (k + w f.0) fs last).next p ps s.some ∙ ap (λ (t : Item). cons_line t (line_of kind es (line_from w (k + w f.0) fs last).next ps)) item
-        ∙ ap (cons_line (record { child = k; entry = f.1.entry })) s.line;
+          ∙ ap (cons_line (record { child = k; entry = f.1.entry })) s.line;
       there = (there, s.there);
       starts = ap (λ n. n ∷ map index_of ps) i ∙ ap (λ (t : List ℕ). k ∷ t) s.starts;
       some = omega arith;
@@ -68,8 +68,8 @@ shows_last : (usable : ℕ) (kind : Kind) (es : List Entry) (plans : List PagePl
     → Shows usable kind es plans leaf k (p ∷ []) [] last right
 shows_last usable kind es plans leaf k p last right i items r there =
     let sheet : sheet_for kind es plans leaf p ≡ record { leaf = leaf; items = last; right = right }
-      = let g : List Item → ℕ → Sheet = λ xs n. record { leaf = leaf; items = xs; right = n } in
-        ap (λ (t : List Item). g t (right_index plans leaf p)) items ∙ ap (g last) r in
+    = let g : List Item → ℕ → Sheet = λ xs n. record { leaf = leaf; items = xs; right = n } in
+    ap (λ (t : List Item). g t (right_index plans leaf p)) items ∙ ap (g last) r in
     record {
       sheets = ap (λ (t : Sheet). t ∷ []) sheet;
       line = let g : ℕ → Line = λ n. record { cells = []; right = n; next = k + width_of usable kind last } in ap g i;
@@ -91,9 +91,9 @@ piece all i g y rest e = record {
   part = ap (take (length g)) e ∙ take-append_seam g (y ∷ rest);
   behind = λ d. sym (get_or-drop i all (length g) d) ∙ ap (λ t. get_or t (length g) d) e ∙ get_here g y rest d;
   more =
-    let apart : g ++ (y ∷ rest) ≡ (g ++ y ∷ []) ++ rest = sym (append_assoc g (y ∷ []) rest) in
-    let len : i + length g + 1 ≡ i + length (g ++ y ∷ []) = omega (arith, length_push g y) in
-    ap (λ n. drop n all) len ∙ sym (drop-drop (length (g ++ y ∷ [])) i all) ∙ ap (drop (length (g ++ y ∷ []))) (e ∙ apart) ∙ drop-append_seam (g ++ y ∷ []) rest;
+      let apart : g ++ (y ∷ rest) ≡ (g ++ y ∷ []) ++ rest = sym (append_assoc g (y ∷ []) rest) in
+      let len : i + length g + 1 ≡ i + length (g ++ y ∷ []) = omega (arith, length_push g y) in
+      ap (λ n. drop n all) len ∙ sym (drop-drop (length (g ++ y ∷ [])) i all) ∙ ap (drop (length (g ++ y ∷ []))) (e ∙ apart) ∙ drop-append_seam (g ++ y ∷ []) rest;
   room = let n : length (drop i all) ≡ length (g ++ (y ∷ rest)) = ap length e in omega (arith, n, length-drop i all, length-append g (y ∷ rest));
 }
 
@@ -116,10 +116,10 @@ inner_page kind es plans base i k g y rest e =
     let p = piece (below kind es plans base) i g y rest e in
     let f = inner_item kind es in
     let item : f (plan_at plans (base + i + length g)) ≡ y
-      = sym (ap (λ n. f (plan_at plans n)) (sym (base_plus base i (length g)))) ∙ ap f (sym (get_or-drop base plans (i + length g) no_page)) ∙ sym (get_or-map f (drop base plans) (i + length g) no_page) ∙ p.behind (f no_page) in
+    = sym (ap (λ n. f (plan_at plans n)) (sym (base_plus base i (length g)))) ∙ ap f (sym (get_or-drop base plans (i + length g) no_page)) ∙ sym (get_or-map f (drop base plans) (i + length g) no_page) ∙ p.behind (f no_page) in
     record {
       items = ap (λ (t : List PagePlan). map f (take (length g) t)) (sym (drop-drop i base plans)) ∙ sym (take-map f (length g) (drop i (drop base plans)))
-        ∙ ap (take (length g)) (sym (drop-map f i (drop base plans))) ∙ p.part;
+          ∙ ap (take (length g)) (sym (drop-map f i (drop base plans))) ∙ p.part;
       right = ap (λ (t : Item). t.child) item;
       entry = ap (λ (t : Item). t.entry) item;
       room = omega (arith, p.room, length-map (drop base plans) f, length-drop base plans);
@@ -145,8 +145,8 @@ level_shown usable kind es plans base (f ∷ fs) last z i k e b =
     (level_plans plans base (k + width_of usable kind f.0) (item_spans usable kind 1 (i + length f.0 + 1) fs last)) f fs last z.child
     refl q.items q.right q.entry (q.room, λ j lt. subst (λ n. (plan_at plans n).behind < length es) (omega arith) (b (i + j) (omega (arith, p.room))))
     (let more : length (drop (i + length f.0 + 1) (below kind es plans base)) ≡ length (flat_from fs last ++ z ∷ []) = ap length p.more in
-      subst (λ n. (plan_at plans n).behind < length es) (omega arith) (b (i + length f.0)
-        (omega (arith, more, length-drop (i + length f.0 + 1) (below kind es plans base), length-append (flat_from fs last) (z ∷ [])))))
+    subst (λ n. (plan_at plans n).behind < length es) (omega arith) (b (i + length f.0)
+    (omega (arith, more, length-drop (i + length f.0 + 1) (below kind es plans base), length-append (flat_from fs last) (z ∷ [])))))
     (level_shown usable kind es plans base fs last z (i + length f.0 + 1) (k + width_of usable kind f.0) p.more b)
 
 -- ---- leaves
@@ -200,7 +200,7 @@ table_leaf : (es : List Entry) (i : ℕ) (g rest : List Item) → 1 ≤ length g
 table_leaf es i [] rest some e = absurd (omega arith)
 table_leaf es i (h ∷ hs) rest some e =
     let whole : (h ∷ hs) ++ rest ≡ start_of h hs ++ (end_of h hs ∷ rest)
-      = sym (ap (λ (t : List Item). t ++ rest) (given h hs)) ∙ append_assoc (start_of h hs) (end_of h hs ∷ []) rest in
+    = sym (ap (λ (t : List Item). t ++ rest) (given h hs)) ∙ append_assoc (start_of h hs) (end_of h hs ∷ []) rest in
     let p = piece (map leaf_item es) i (start_of h hs) (end_of h hs) rest (e ∙ whole) in
     let len : length (h ∷ hs) ≡ length (start_of h hs) + 1 = sym (ap length (given h hs)) ∙ length_push (start_of h hs) (end_of h hs) in
     let place : i + length (h ∷ hs) - 1 ≡ i + length (start_of h hs) = omega (arith, len) in
@@ -232,15 +232,21 @@ pub line_next : (usable : ℕ) (kind : Kind) (gap k i : ℕ) (firsts : List (Lis
     → (line_from (width_of usable kind) k firsts last).next ≡ k + sum_by span_pages (item_spans usable kind gap i firsts last)
 line_next usable kind gap k i [] last = omega (arith, sum_by-cons span_pages (item_span usable kind i last) [])
 line_next usable kind gap k i (f ∷ fs) last =
-    omega (arith, line_next usable kind gap (k + width_of usable kind f.0) (i + length f.0 + gap) fs last,
-      sum_by-cons span_pages (item_span usable kind i f.0) (item_spans usable kind gap (i + length f.0 + gap) fs last))
+    omega (
+      arith,
+      line_next usable kind gap (k + width_of usable kind f.0) (i + length f.0 + gap) fs last,
+      sum_by-cons span_pages (item_span usable kind i f.0) (item_spans usable kind gap (i + length f.0 + gap) fs last),
+    )
 
 pub line_pages : (usable : ℕ) (kind : Kind) (leaf : Bool) (k : ℕ) (firsts : List (List Item × Item)) (last : List Item) (right : ℕ)
     → (line_from (width_of usable kind) k firsts last).next ≡ k + pages_in usable kind (sheets_from leaf firsts last right)
 line_pages usable kind leaf k [] last right = omega (arith, sum_by-cons (λ (s : Sheet). width_of usable kind s.items) (record { leaf = leaf; items = last; right = right }) [])
 line_pages usable kind leaf k (f ∷ fs) last right =
-    omega (arith, line_pages usable kind leaf (k + width_of usable kind f.0) fs last right,
-      sum_by-cons (λ (s : Sheet). width_of usable kind s.items) (record { leaf = leaf; items = f.0; right = f.1.child }) (sheets_from leaf fs last right))
+    omega (
+      arith,
+      line_pages usable kind leaf (k + width_of usable kind f.0) fs last right,
+      sum_by-cons (λ (s : Sheet). width_of usable kind s.items) (record { leaf = leaf; items = f.0; right = f.1.child }) (sheets_from leaf fs last right),
+    )
 
 pub line_len : (usable : ℕ) (kind : Kind) (k : ℕ) (firsts : List (List Item × Item)) (last : List Item) → length (line_from (width_of usable kind) k firsts last).cells ≡ length firsts
 line_len usable kind k [] last = refl
@@ -259,16 +265,23 @@ pub line_overs : (usable : ℕ) (kind : Kind) (k : ℕ) (firsts : List (List Ite
     → level_overs usable kind firsts last + overs usable kind (line_from (width_of usable kind) k firsts last).cells ≡ overs usable kind (flat_from firsts last)
 line_overs usable kind k [] last = omega arith
 line_overs usable kind k (f ∷ fs) last =
-    omega (arith, line_overs usable kind (k + width_of usable kind f.0) fs last, sum_by-append (item_overs usable kind) f.0 (f.1 ∷ flat_from fs last),
+    omega (
+      arith,
+      line_overs usable kind (k + width_of usable kind f.0) fs last,
+      sum_by-append (item_overs usable kind) f.0 (f.1 ∷ flat_from fs last),
       sum_by-cons (item_overs usable kind) f.1 (flat_from fs last),
-      sum_by-cons (item_overs usable kind) (record { child = k; entry = f.1.entry }) (line_from (width_of usable kind) (k + width_of usable kind f.0) fs last).cells)
+      sum_by-cons (item_overs usable kind) (record { child = k; entry = f.1.entry }) (line_from (width_of usable kind) (k + width_of usable kind f.0) fs last).cells,
+    )
 
 pub pages_overs : (usable : ℕ) (kind : Kind) (leaf : Bool) (firsts : List (List Item × Item)) (last : List Item) (right : ℕ)
     → pages_in usable kind (sheets_from leaf firsts last right) ≡ length firsts + 1 + level_overs usable kind firsts last
 pages_overs usable kind leaf [] last right = omega (arith, sum_by-cons (λ (s : Sheet). width_of usable kind s.items) (record { leaf = leaf; items = last; right = right }) [])
 pages_overs usable kind leaf (f ∷ fs) last right =
-    omega (arith, pages_overs usable kind leaf fs last right,
-      sum_by-cons (λ (s : Sheet). width_of usable kind s.items) (record { leaf = leaf; items = f.0; right = f.1.child }) (sheets_from leaf fs last right))
+    omega (
+      arith,
+      pages_overs usable kind leaf fs last right,
+      sum_by-cons (λ (s : Sheet). width_of usable kind s.items) (record { leaf = leaf; items = f.0; right = f.1.child }) (sheets_from leaf fs last right),
+    )
 
 -- a table's leaves have all overflow pages: the keys over them have none
 pub keyed_overs : (usable : ℕ) (k : ℕ) (firsts : List (List Item × Item)) (last : List Item) → 480 ≤ usable → Keyed key_item no_item firsts
@@ -276,6 +289,11 @@ pub keyed_overs : (usable : ℕ) (k : ℕ) (firsts : List (List Item × Item)) (
 keyed_overs usable k [] last least keyed = omega arith
 keyed_overs usable k (f ∷ fs) last least keyed =
     let key : item_overs usable Table (record { child = k; entry = f.1.entry }) ≡ 0
-      = ap (λ (x : Item). over_count usable Table x.entry) keyed.0 ∙ key_alone usable Table (last_of no_item f.0).entry least in
-    omega (arith, keyed_overs usable (k + width_of usable Table f.0) fs last least keyed.2, sum_by-append (item_overs usable Table) f.0 (joined_from fs last), key,
-      sum_by-cons (item_overs usable Table) (record { child = k; entry = f.1.entry }) (line_from (width_of usable Table) (k + width_of usable Table f.0) fs last).cells)
+    = ap (λ (x : Item). over_count usable Table x.entry) keyed.0 ∙ key_alone usable Table (last_of no_item f.0).entry least in
+    omega (
+      arith,
+      keyed_overs usable (k + width_of usable Table f.0) fs last least keyed.2,
+      sum_by-append (item_overs usable Table) f.0 (joined_from fs last),
+      key,
+      sum_by-cons (item_overs usable Table) (record { child = k; entry = f.1.entry }) (line_from (width_of usable Table) (k + width_of usable Table f.0) fs last).cells,
+    )

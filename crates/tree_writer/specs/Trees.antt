@@ -70,7 +70,7 @@ pub record IsSchemaPlan (usable : ℕ) (es : List Entry) (p : TreePlan) : Type 0
   pub root : p.root ≡ 0
   pub short : p.count ≤ 2 ^ 31 + 2
   pub fits : 100 + needs usable Table (schema_top usable es).leaf (schema_top usable es).items
-    ≤ room_in usable (schema_top usable es).leaf
+      ≤ room_in usable (schema_top usable es).leaf
 
 -- a plan of these entries
 pub data IsPlan (es : List Entry) (p : TreePlan) : Type 0 where

@@ -28,14 +28,7 @@ fn put_child(to: &mut [u8], at: usize, leaf: bool, child: u32) -> usize
 }
 
 // Puts the varints of a cell with this payload.
-fn put_numbers(
-    to: &mut [u8],
-    at: usize,
-    kind: Kind,
-    leaf: bool,
-    cell: Cell,
-    body: &[u8],
-) -> usize
+fn put_numbers(to: &mut [u8], at: usize, kind: Kind, leaf: bool, cell: Cell, body: &[u8]) -> usize
     requires { at + length (number_part kind leaf (laid_by cell body.now)) ≤ length to.old }
     ensures end { result ≡ at + length (number_part kind leaf (laid_by cell body.now)) }
     ensures front { take result to.new
@@ -52,14 +45,7 @@ fn put_numbers(
 }
 
 // Puts the local bytes of a payload, and the overflow page number where some are not local.
-fn put_payload(
-    to: &mut [u8],
-    at: usize,
-    kind: Kind,
-    usable: u32,
-    cell: Cell,
-    body: &[u8],
-) -> usize
+fn put_payload(to: &mut [u8], at: usize, kind: Kind, usable: u32, cell: Cell, body: &[u8]) -> usize
     requires least { 480 ≤ usable }
     requires most { usable ≤ 65536 }
     requires room { at + length (payload_part usable kind (laid_by cell body.now)) ≤ length to.old }
@@ -69,7 +55,11 @@ fn put_payload(
 {
     let kept = local_size(kind, usable, body.len() as u64) as usize;
     let end = put(to, at, &body[..kept]);
-    if kept == body.len() { end } else { put_u32(to, end, cell.next) }
+    if kept == body.len() {
+        end
+    } else {
+        put_u32(to, end, cell.next)
+    }
 }
 
 /// Puts a cell with this payload, four bytes long at least, and gives the place behind it.

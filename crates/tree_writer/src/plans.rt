@@ -336,7 +336,15 @@ impl TreePlan {
                 root: 0,
             });
         }
-        let top = raise(alloc, usable, Kind::Table, entries, &sizes, usable - 112, &mut pages)?;
+        let top = raise(
+            alloc,
+            usable,
+            Kind::Table,
+            entries,
+            &sizes,
+            usable - 112,
+            &mut pages,
+        )?;
         let page = PagePlan {
             index: top.index,
             first: top.base,
@@ -429,22 +437,52 @@ impl TreePlan {
     {
         match self.first_page {
             None => self.write_below(k, numbers, entries, held, scratch, to),
-            Some(page) if k == 0 || k > page.index => {
-                let first = Sheet {
-                    usable: self.usable,
-                    kind: self.kind,
-                    leaf: self.pages.len() == 0,
-                    page,
-                    pages: self.pages.as_slice(),
-                    entries,
-                };
-                if k == 0 {
-                    first.write(numbers, page.index, held, scratch, 100, to)
+            Some(page) => {
+                if 0 < k && k <= page.index {
+                    self.write_below(k - 1, numbers, entries, held, scratch, to)
                 } else {
-                    first.write_over(numbers, page.index, k - 1, held, scratch, to)
+                    self.write_first(page, k, numbers, entries, held, scratch, to)
                 }
             }
-            Some(_) => self.write_below(k - 1, numbers, entries, held, scratch, to),
+        }
+    }
+
+    // Fills `to` with page 1, or with one of its overflow pages.
+    fn write_first<N: Entries>(
+        &self,
+        page: PagePlan,
+        k: u32,
+        numbers: &Numbering,
+        entries: &N,
+        held: Option<u32>,
+        scratch: &mut [u8],
+        to: &mut [u8],
+    ) -> Option<u32>
+        requires plan { IsSchemaPlan self.now.usable (N.entries entries.now) self.now }
+        requires page { self.now.first_page ≡ Some page }
+        requires there { k < self.now.count }
+        requires first { 0 < k → page.index < k }
+        requires some { 1 ≤ numbers.now.start }
+        requires numbers { numbers.now.start + self.now.count < 2 ^ 32 - 1 }
+        requires held { IsHeld (N.entries entries.now) held scratch.old }
+        requires room { HasRoom (N.entries entries.now) scratch.old }
+        requires size { length to.old ≡ self.now.usable }
+        ensures bytes { to.new ≡ slice_index_or (schema_pages (take 100 to.old) self.now.usable
+            (number_of numbers.now.start numbers.now.lock) (N.entries entries.now)) k [] }
+        ensures held { IsHeld (N.entries entries.now) result scratch.new }
+    {
+        let sheet = Sheet {
+            usable: self.usable,
+            kind: self.kind,
+            leaf: self.pages.len() == 0,
+            page,
+            pages: self.pages.as_slice(),
+            entries,
+        };
+        if k == 0 {
+            sheet.write(numbers, page.index, held, scratch, 100, to)
+        } else {
+            sheet.write_over(numbers, page.index, k - 1, held, scratch, to)
         }
     }
 

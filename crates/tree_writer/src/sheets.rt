@@ -83,8 +83,11 @@ impl<N: Entries> Sheet<'_, N> {
         ensures entry { result.entry < length (N.entries self.now.entries.now) }
         ensures item { slice_index_or (items_of self.now.kind (N.entries self.now.entries.now)
             self.now.pages.now self.now.leaf self.now.page) i no_item
-            ≡ record { child = result.child; entry = part_of self.now.kind self.now.leaf
-            (entry_at (N.entries self.now.entries.now) result.entry) } }
+            ≡ record {
+              child = result.child;
+              entry = part_of self.now.kind self.now.leaf
+                  (entry_at (N.entries self.now.entries.now) result.entry);
+            } }
     {
         let _count = self.entries.count();
         if self.leaf {
@@ -348,7 +351,11 @@ impl<N: Entries> Sheet<'_, N> {
         let room = self.usable as usize - 4;
         let from = kept + place as usize * room;
         let content = part_of(&scratch[..len], from, room);
-        put_over(to, next_number(numbers, k, chain.count - 1 - place), content);
+        put_over(
+            to,
+            next_number(numbers, k, chain.count - 1 - place),
+            content,
+        );
         Some(chain.entry)
     }
 }
@@ -359,7 +366,11 @@ fn part_of(bytes: &[u8], from: usize, most: usize) -> &[u8]
     ensures { result.now ≡ take most (drop from bytes.now) }
 {
     let rest = &bytes[from..];
-    if rest.len() < most { rest } else { &rest[..most] }
+    if rest.len() < most {
+        rest
+    } else {
+        &rest[..most]
+    }
 }
 
 // The number of the page behind that of index `k`, or 0 where none is left.

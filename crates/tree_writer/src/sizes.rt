@@ -107,13 +107,7 @@ pub(crate) fn payload_size<N: Entries>(kind: Kind, leaf: bool, entries: &N, i: u
 
 /// What the cell of entry `i` takes on a page of this kind.
 #[tactic(auto, unfolding(crate::specs::Cells::cell_len, crate::specs::Cells::over_count))]
-pub(crate) fn size_of<N: Entries>(
-    usable: u32,
-    kind: Kind,
-    leaf: bool,
-    entries: &N,
-    i: u32,
-) -> Size
+pub(crate) fn size_of<N: Entries>(usable: u32, kind: Kind, leaf: bool, entries: &N, i: u32) -> Size
     requires least { 480 ≤ usable }
     requires most { usable ≤ 65536 }
     requires there { i < length (N.entries entries.now) }

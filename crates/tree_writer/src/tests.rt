@@ -22,7 +22,11 @@ impl Entries for Alike {
     }
 
     fn rowid(&self, i: u32) -> Option<i64> {
-        if self.rowids { Some(i64::from(i) + 1) } else { None }
+        if self.rowids {
+            Some(i64::from(i) + 1)
+        } else {
+            None
+        }
     }
 
     fn payload_len(&self, _i: u32) -> u64 {
@@ -36,7 +40,11 @@ impl Entries for Alike {
 
 #[test]
 fn hundred_entries_of_forty_bytes_take_eleven_pages(rt: HostRuntime) -> Result<(), Fail> {
-    let entries = Alike { count: 100, len: 40, rowids: true };
+    let entries = Alike {
+        count: 100,
+        len: 40,
+        rowids: true,
+    };
     let plan = TreePlan::table(rt.alloc(), 512, &entries)?;
     assert_eq!(rt; plan.page_count(), 11);
     assert_eq!(rt; plan.root(), 10);
@@ -45,7 +53,11 @@ fn hundred_entries_of_forty_bytes_take_eleven_pages(rt: HostRuntime) -> Result<(
 
 #[test]
 fn twenty_index_entries_of_hundred_bytes_take_six_pages(rt: HostRuntime) -> Result<(), Fail> {
-    let entries = Alike { count: 20, len: 100, rowids: false };
+    let entries = Alike {
+        count: 20,
+        len: 100,
+        rowids: false,
+    };
     let plan = TreePlan::index(rt.alloc(), 512, &entries)?;
     assert_eq!(rt; plan.page_count(), 6);
     assert_eq!(rt; plan.root(), 5);

@@ -10,13 +10,14 @@ loop-i-init c = rw c.new-spans.ensures.items (cutting_start c.args.sizes.now c.a
 pub loop-i-preserved : goal.loop-i-preserved
 loop-i-preserved c =
     elim c.if-size-left.branch [
-      then-size-left w ↦ cut_same _ _ _ _ _ _ _ _ _ _ c.loop-i.invariant c.loop-i-test.true refl w.if-size-left.true
-        (ap (λ (v : Vec Span Global). v.items) w.spans-is) w.span-is w.left-is
-    | else-size-left+then-i-sizes+in_ok-push w ↦ cut_next _ _ _ _ _ _ _ _ _ _ c.loop-i.invariant w.if-i-sizes.true refl w.if-size-left.false
-        (ap (λ (v : Vec Span Global). v.items) w.spans-is ∙ w.in_ok-push.ensures.items) w.span-is w.left-is
-    | else-size-left+else-i-sizes+in_ok-push-2 w ↦ cut_last _ _ _ _ _ _ _ _ _ _ _
-        (gives_up _ _ _ _ _ _ _ _ c.loop-i.invariant (omega arith) refl w.if-size-left.false (c.requires.fit c.loop-i.i c.loop-i-test.true) refl)
-        (ap (λ (v : Vec Span Global). v.items) w.spans-is ∙ w.in_ok-push-2.ensures.items) w.span-is w.left-is ]
+      | then-size-left w ↦ cut_same _ _ _ _ _ _ _ _ _ _ c.loop-i.invariant c.loop-i-test.true refl w.if-size-left.true
+          (ap (λ (v : Vec Span Global). v.items) w.spans-is) w.span-is w.left-is
+      | else-size-left+then-i-sizes+in_ok-push w ↦ cut_next _ _ _ _ _ _ _ _ _ _ c.loop-i.invariant w.if-i-sizes.true refl w.if-size-left.false
+          (ap (λ (v : Vec Span Global). v.items) w.spans-is ∙ w.in_ok-push.ensures.items) w.span-is w.left-is
+      | else-size-left+else-i-sizes+in_ok-push-2 w ↦ cut_last _ _ _ _ _ _ _ _ _ _ _
+          (gives_up _ _ _ _ _ _ _ _ c.loop-i.invariant (omega arith) refl w.if-size-left.false (c.requires.fit c.loop-i.i c.loop-i-test.true) refl)
+          (ap (λ (v : Vec Span Global). v.items) w.spans-is ∙ w.in_ok-push-2.ensures.items) w.span-is w.left-is
+    ]
 
 pub returns : goal.returns
 returns c = c.in_ok-push-3.ensures.items ∙ cutting_done _ _ _ _ _ _ c.loop-i.invariant c.loop-i-test.false

@@ -10,10 +10,11 @@ loop-size-init c = rw c.new-spans.ensures.items (leafing_start c.args.sizes.now 
 pub loop-size-preserved : goal.loop-size-preserved
 loop-size-preserved c =
     elim c.if-size-left.branch [
-      then-size-left w ↦ leaf_same _ _ _ _ _ _ _ _ _ _ c.loop-size.invariant c.loop-size-test.true refl w.if-size-left.true
-        (ap (λ (v : Vec Span Global). v.items) w.spans-is) w.span-is w.left-is
-    | else-size-left+in_ok-push w ↦ leaf_next _ _ _ _ _ _ _ _ _ _ c.loop-size.invariant c.requires c.loop-size-test.true refl w.if-size-left.false
-        (ap (λ (v : Vec Span Global). v.items) w.spans-is ∙ w.in_ok-push.ensures.items) w.span-is w.left-is ]
+      | then-size-left w ↦ leaf_same _ _ _ _ _ _ _ _ _ _ c.loop-size.invariant c.loop-size-test.true refl w.if-size-left.true
+          (ap (λ (v : Vec Span Global). v.items) w.spans-is) w.span-is w.left-is
+      | else-size-left+in_ok-push w ↦ leaf_next _ _ _ _ _ _ _ _ _ _ c.loop-size.invariant c.requires c.loop-size-test.true refl w.if-size-left.false
+          (ap (λ (v : Vec Span Global). v.items) w.spans-is ∙ w.in_ok-push.ensures.items) w.span-is w.left-is
+    ]
 
 pub overflow_add-span : goal.overflow_add-span
 overflow_add-span c =

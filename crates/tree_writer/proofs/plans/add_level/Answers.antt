@@ -11,8 +11,8 @@ loop-span-preserved c =
     let there = c.requires.ends c.loop-span.span-index c.loop-span-test.true in
     let f : PagePlan → PagePlan = λ p. record { index = c.loop-span.index; first = c.args.base + s.first; cells = s.cells; behind = p.behind } in
     adds_level _ _ _ _ _ _ _ _ _ c.loop-span.invariant c.loop-span-test.true there c.in_ok-push.ensures.items
-      (ap f (c.index.ensures ∙ get_or_default c.loop-span.pages.items (c.args.base + s.first + s.cells) c.index.result.now no_page
-        (longer _ _ _ _ _ _ _ _ c.loop-span.invariant there)))
+    (ap f (c.index.ensures ∙ get_or_default c.loop-span.pages.items (c.args.base + s.first + s.cells) c.index.result.now no_page
+    (longer _ _ _ _ _ _ _ _ c.loop-span.invariant there)))
 
 pub index-requires : goal.index-requires
 index-requires c =

@@ -11,7 +11,7 @@ loop-i-preserved g c =
     let es = g.N.Entries.entries c.args.entries.now in
     let f : Entry → Size = λ e. size_item c.args.usable c.args.kind true (leaf_item e) in
     c.in_ok-push.ensures.items ∙ front_more f es c.loop-i.i no_entry c.loop-i.sizes.items c.size_of.result (omega (arith, c.loop-i-test.true, c.count-i-end.ensures)) c.loop-i.invariant
-      (leaf_size c.args.usable c.args.kind (entry_at es c.loop-i.i) c.size_of.result c.size_of.ensures)
+    (leaf_size c.args.usable c.args.kind (entry_at es c.loop-i.i) c.size_of.result c.size_of.ensures)
 
 pub returns : goal.returns
 returns g c =

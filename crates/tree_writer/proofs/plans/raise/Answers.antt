@@ -23,7 +23,7 @@ pub overflow_cast-leaves : goal.overflow_cast-leaves
 overflow_cast-leaves g c =
     let f = first_turn c.args.usable c.args.kind (g.N.Entries.entries c.args.entries.now) c.requires.least c.requires.entries in
     let p = c.in_ok-index.ensures.pages ∙ ap (λ (t : List PagePlan). t ++ leaf_plans c.args.kind 0 c.as_slice.result.now) c.requires.none
-      ∙ ap (leaf_plans c.args.kind 0) (c.as_slice.ensures.value ∙ c.in_ok-spans.ensures) in
+    ∙ ap (leaf_plans c.args.kind 0) (c.as_slice.ensures.value ∙ c.in_ok-spans.ensures) in
     omega (arith, f.short, ap length p, c.len-leaves.ensures, c.add_leaves.new.pages.ok.0)
 
 pub levels-init : goal.levels-init
@@ -32,7 +32,7 @@ levels-init g c =
     let f = first_turn c.args.usable c.args.kind es c.requires.least c.requires.entries in
     let sp = c.as_slice.ensures.value ∙ c.in_ok-spans.ensures in
     let p = c.in_ok-index.ensures.pages ∙ ap (λ (t : List PagePlan). t ++ leaf_plans c.args.kind 0 c.as_slice.result.now) c.requires.none
-      ∙ ap (leaf_plans c.args.kind 0) sp in
+    ∙ ap (leaf_plans c.args.kind 0) sp in
     let plans = c.add_leaves.new.pages.items in
     let len : length plans ≡ c.len-leaves.result = omega (arith, c.len-leaves.ensures, c.add_leaves.new.pages.ok.0) in
     subst (λ n. Grows c.args.usable c.args.kind c.args.top es n 0 c.in_ok-index.index plans) len
@@ -45,7 +45,7 @@ needs_of-requires g c =
     let end = c.len-end.result - 1 in
     let e : end + 1 ≡ length c.levels.pages.items = omega (arith, c.len-end.ensures, c.levels.pages.ok.0, inv.lens) in
     let is = subst (λ (t : List PagePlan). c.in_ok-line.line.items ≡ map (size_item c.args.usable c.args.kind false) (map (inner_item c.args.kind es) (take (end - c.levels.base) (drop c.levels.base t))))
-      c.as_slice-in-levels.ensures.value c.in_ok-line.ensures in
+    c.as_slice-in-levels.ensures.value c.in_ok-line.ensures in
     let l = line_takes c.args.usable c.args.kind c.args.top es c.len-leaves.result c.levels.base c.levels.index end c.levels.pages.items c.in_ok-line.line.items c.requires.least c.requires.entries inv e is in
     omega (arith, l.short, ap length c.as_slice-in-levels-2.ensures.value)
 
@@ -56,7 +56,7 @@ cut_spans-requires g c =
     let end = c.len-end.result - 1 in
     let e : end + 1 ≡ length c.levels.pages.items = omega (arith, c.len-end.ensures, c.levels.pages.ok.0, inv.lens) in
     let is = subst (λ (t : List PagePlan). c.in_ok-line.line.items ≡ map (size_item c.args.usable c.args.kind false) (map (inner_item c.args.kind es) (take (end - c.levels.base) (drop c.levels.base t))))
-      c.as_slice-in-levels.ensures.value c.in_ok-line.ensures in
+    c.as_slice-in-levels.ensures.value c.in_ok-line.ensures in
     let l = line_takes c.args.usable c.args.kind c.args.top es c.len-leaves.result c.levels.base c.levels.index end c.levels.pages.items c.in_ok-line.line.items c.requires.least c.requires.entries inv e is in
     let lt : c.args.top < sum_by need_in c.in_ok-line.line.items = omega (arith, c.if-needs_of-from.false, c.from.ensures, c.needs_of.ensures, ap (sum_by need_in) c.as_slice-in-levels-2.ensures.value) in
     subst (AreSizes (c.args.usable - 12)) (sym c.as_slice-in-levels-3.ensures.value) (l.can_cut lt)
@@ -68,13 +68,13 @@ add_level-requires g c =
     let end = c.len-end.result - 1 in
     let e : end + 1 ≡ length c.levels.pages.items = omega (arith, c.len-end.ensures, c.levels.pages.ok.0, inv.lens) in
     let is = subst (λ (t : List PagePlan). c.in_ok-line.line.items ≡ map (size_item c.args.usable c.args.kind false) (map (inner_item c.args.kind es) (take (end - c.levels.base) (drop c.levels.base t))))
-      c.as_slice-in-levels.ensures.value c.in_ok-line.ensures in
+    c.as_slice-in-levels.ensures.value c.in_ok-line.ensures in
     let l = line_takes c.args.usable c.args.kind c.args.top es c.len-leaves.result c.levels.base c.levels.index end c.levels.pages.items c.in_ok-line.line.items c.requires.least c.requires.entries inv e is in
     let lt : c.args.top < sum_by need_in c.in_ok-line.line.items = omega (arith, c.if-needs_of-from.false, c.from.ensures, c.needs_of.ensures, ap (sum_by need_in) c.as_slice-in-levels-2.ensures.value) in
     let made : c.in_ok-spans-2.spans.items ≡ spans_of 1 0 (cuts need_in (c.args.usable - 12) [] (c.args.usable - 12) c.in_ok-line.line.items)
-      = c.in_ok-spans-2.ensures ∙ ap (λ (t : List Size). spans_of 1 0 (cuts need_in (c.args.usable - 12) [] (c.args.usable - 12) t)) c.as_slice-in-levels-3.ensures.value in
+    = c.in_ok-spans-2.ensures ∙ ap (λ (t : List Size). spans_of 1 0 (cuts need_in (c.args.usable - 12) [] (c.args.usable - 12) t)) c.as_slice-in-levels-3.ensures.value in
     let n = next_turn c.args.usable c.args.kind c.args.top es c.len-leaves.result c.levels.base c.levels.index end c.levels.pages.items c.in_ok-line.line.items c.as_slice-in-levels-4.result.now c.requires.least c.requires.entries inv e l lt
-      (c.as_slice-in-levels-4.ensures.value ∙ made) in
+    (c.as_slice-in-levels-4.ensures.value ∙ made) in
     record { few = n.few; small = n.small; ends = n.ends }
 
 pub levels-smaller : goal.levels-smaller
@@ -84,13 +84,13 @@ levels-smaller g c =
     let end = c.len-end.result - 1 in
     let e : end + 1 ≡ length c.levels.pages.items = omega (arith, c.len-end.ensures, c.levels.pages.ok.0, inv.lens) in
     let is = subst (λ (t : List PagePlan). c.in_ok-line.line.items ≡ map (size_item c.args.usable c.args.kind false) (map (inner_item c.args.kind es) (take (end - c.levels.base) (drop c.levels.base t))))
-      c.as_slice-in-levels.ensures.value c.in_ok-line.ensures in
+    c.as_slice-in-levels.ensures.value c.in_ok-line.ensures in
     let l = line_takes c.args.usable c.args.kind c.args.top es c.len-leaves.result c.levels.base c.levels.index end c.levels.pages.items c.in_ok-line.line.items c.requires.least c.requires.entries inv e is in
     let lt : c.args.top < sum_by need_in c.in_ok-line.line.items = omega (arith, c.if-needs_of-from.false, c.from.ensures, c.needs_of.ensures, ap (sum_by need_in) c.as_slice-in-levels-2.ensures.value) in
     let made : c.in_ok-spans-2.spans.items ≡ spans_of 1 0 (cuts need_in (c.args.usable - 12) [] (c.args.usable - 12) c.in_ok-line.line.items)
-      = c.in_ok-spans-2.ensures ∙ ap (λ (t : List Size). spans_of 1 0 (cuts need_in (c.args.usable - 12) [] (c.args.usable - 12) t)) c.as_slice-in-levels-3.ensures.value in
+    = c.in_ok-spans-2.ensures ∙ ap (λ (t : List Size). spans_of 1 0 (cuts need_in (c.args.usable - 12) [] (c.args.usable - 12) t)) c.as_slice-in-levels-3.ensures.value in
     let n = next_turn c.args.usable c.args.kind c.args.top es c.len-leaves.result c.levels.base c.levels.index end c.levels.pages.items c.in_ok-line.line.items c.as_slice-in-levels-4.result.now c.requires.least c.requires.entries inv e l lt
-      (c.as_slice-in-levels-4.ensures.value ∙ made) in
+    (c.as_slice-in-levels-4.ensures.value ∙ made) in
     n.smaller c.add_level.new.pages.items c.in_ok-index-2.ensures.pages
 
 pub levels-preserved : goal.levels-preserved
@@ -100,13 +100,13 @@ levels-preserved g c =
     let end = c.len-end.result - 1 in
     let e : end + 1 ≡ length c.levels.pages.items = omega (arith, c.len-end.ensures, c.levels.pages.ok.0, inv.lens) in
     let is = subst (λ (t : List PagePlan). c.in_ok-line.line.items ≡ map (size_item c.args.usable c.args.kind false) (map (inner_item c.args.kind es) (take (end - c.levels.base) (drop c.levels.base t))))
-      c.as_slice-in-levels.ensures.value c.in_ok-line.ensures in
+    c.as_slice-in-levels.ensures.value c.in_ok-line.ensures in
     let l = line_takes c.args.usable c.args.kind c.args.top es c.len-leaves.result c.levels.base c.levels.index end c.levels.pages.items c.in_ok-line.line.items c.requires.least c.requires.entries inv e is in
     let lt : c.args.top < sum_by need_in c.in_ok-line.line.items = omega (arith, c.if-needs_of-from.false, c.from.ensures, c.needs_of.ensures, ap (sum_by need_in) c.as_slice-in-levels-2.ensures.value) in
     let made : c.in_ok-spans-2.spans.items ≡ spans_of 1 0 (cuts need_in (c.args.usable - 12) [] (c.args.usable - 12) c.in_ok-line.line.items)
-      = c.in_ok-spans-2.ensures ∙ ap (λ (t : List Size). spans_of 1 0 (cuts need_in (c.args.usable - 12) [] (c.args.usable - 12) t)) c.as_slice-in-levels-3.ensures.value in
+    = c.in_ok-spans-2.ensures ∙ ap (λ (t : List Size). spans_of 1 0 (cuts need_in (c.args.usable - 12) [] (c.args.usable - 12) t)) c.as_slice-in-levels-3.ensures.value in
     let n = next_turn c.args.usable c.args.kind c.args.top es c.len-leaves.result c.levels.base c.levels.index end c.levels.pages.items c.in_ok-line.line.items c.as_slice-in-levels-4.result.now c.requires.least c.requires.entries inv e l lt
-      (c.as_slice-in-levels-4.ensures.value ∙ made) in
+    (c.as_slice-in-levels-4.ensures.value ∙ made) in
     n.next c.in_ok-index-2.index c.add_level.new.pages.items c.in_ok-index-2.ensures.pages c.in_ok-index-2.ensures.index
 
 pub returns : goal.returns
@@ -116,8 +116,8 @@ returns g c =
     let end = c.len-end.result - 1 in
     let e : end + 1 ≡ length c.levels.pages.items = omega (arith, c.len-end.ensures, c.levels.pages.ok.0, inv.lens) in
     let is = subst (λ (t : List PagePlan). c.in_ok-line.line.items ≡ map (size_item c.args.usable c.args.kind false) (map (inner_item c.args.kind es) (take (end - c.levels.base) (drop c.levels.base t))))
-      c.as_slice-in-levels.ensures.value c.in_ok-line.ensures in
+    c.as_slice-in-levels.ensures.value c.in_ok-line.ensures in
     let l = line_takes c.args.usable c.args.kind c.args.top es c.len-leaves.result c.levels.base c.levels.index end c.levels.pages.items c.in_ok-line.line.items c.requires.least c.requires.entries inv e is in
     let fits : nat_le (needs c.args.usable c.args.kind false inv.line.cells) c.args.top ≡ true
-      = under (needs c.args.usable c.args.kind false inv.line.cells) c.args.top (omega (arith, l.needs_are, c.if-needs_of-from.true, c.from.ensures, c.needs_of.ensures, ap (sum_by need_in) c.as_slice-in-levels-2.ensures.value)) in
+    = under (needs c.args.usable c.args.kind false inv.line.cells) c.args.top (omega (arith, l.needs_are, c.if-needs_of-from.true, c.from.ensures, c.needs_of.ensures, ap (sum_by need_in) c.as_slice-in-levels-2.ensures.value)) in
     grows_end c.args.usable c.args.kind c.args.top es c.len-leaves.result c.levels.base c.levels.index c.levels.pages.items c.requires.least c.requires.entries inv fits

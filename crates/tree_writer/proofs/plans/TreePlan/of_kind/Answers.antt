@@ -21,6 +21,6 @@ returns g c =
       no_first = refl;
       count = r.index;
       root = ap (λ (p : PagePlan). p.index) (c.index.ensures ∙ get_or_default plans (c.len.result - 1) c.index.result.now no_page (omega (arith, r.base, place))) ∙ ap (λ n. (plan_at plans n).index) place
-        ∙ root_is c.args.usable c.args.kind 0 es plans c.in_ok-top.top r;
+          ∙ root_is c.args.usable c.args.kind 0 es plans c.in_ok-top.top r;
       short = r.few;
     }

@@ -25,7 +25,7 @@ returns-then-k-at g c =
     let len = ready_len c.requires.ready in
     let self = c.args.self.now in
     let found = chaining_found _ _ _ (g.N.Entries.entries self.entries.now) _ _ _ _ _ c.place.result.child c.place.result.entry _ c.requires.ready.least c.loop-i.invariant (omega (arith, len, c.loop-i-test.true)) c.size-count.ensures
-      c.place.ensures.item c.if-k-at.true in
+    c.place.ensures.item c.if-k-at.true in
     record {
       chain = record { there = c.place.ensures.entry; low = c.loop-i.invariant.low; high = c.if-k-at.true; many = found.many };
       end = found.end;

@@ -14,7 +14,7 @@ cells-init g c =
     let items = items_of self.kind (g.N.Entries.entries self.entries.now) self.pages.now self.leaf self.page in
     record {
       stacking = stacking_start _ _ _ _ _ _ _ _ _ _ (sym (ready_len c.requires.ready)) (ap (λ n. c.args.first + n) c.requires.overs)
-        (ap (λ n. c.args.at + n) (sym (stack_len self.usable self.kind self.leaf (number_of c.args.numbers.now.start c.args.numbers.now.lock) c.args.first items c.requires.ready.least)) ∙ c.requires.page);
+          (ap (λ n. c.args.at + n) (sym (stack_len self.usable self.kind self.leaf (number_of c.args.numbers.now.start c.args.numbers.now.lock) c.args.first items c.requires.ready.least)) ∙ c.requires.page);
       held = c.requires.held;
       room = c.requires.room;
     }
@@ -34,9 +34,9 @@ put_cell-at-requires-clause-room g c =
     let next = c.cells.next - c.size-next.result.overs in
     let laid = laid_by (record { child = c.number.result; rowid = c.raw_of.result; next = c.number-in-cells.result }) (take c.payload_size-len.result c.fetch.new.scratch) in
     let same : laid ≡ laid_of number next (get_or items (c.cells.i - 1) no_item)
-      = laid_same self.kind self.leaf number next (get_or items (c.cells.i - 1) no_item) c.place-place.result.child (entry_at es c.place-place.result.entry) (record { child = c.number.result; rowid = c.raw_of.result; next = c.number-in-cells.result }) (take c.payload_size-len.result c.fetch.new.scratch)
-        c.place-place.ensures.item c.number.ensures (c.raw_of.ensures ∙ ap raw_of c.rowid.ensures) c.number-in-cells.ensures
-        (body_is self.kind self.leaf es c.place-place.result.entry c.payload_size-len.result c.fetch.new.scratch c.fetch.ensures.held c.payload_size-len.ensures) in
+    = laid_same self.kind self.leaf number next (get_or items (c.cells.i - 1) no_item) c.place-place.result.child (entry_at es c.place-place.result.entry) (record { child = c.number.result; rowid = c.raw_of.result; next = c.number-in-cells.result }) (take c.payload_size-len.result c.fetch.new.scratch)
+    c.place-place.ensures.item c.number.ensures (c.raw_of.ensures ∙ ap raw_of c.rowid.ensures) c.number-in-cells.ensures
+    (body_is self.kind self.leaf es c.place-place.result.entry c.payload_size-len.result c.fetch.new.scratch c.fetch.ensures.held c.payload_size-len.ensures) in
     stacking_room self.usable self.kind self.leaf number items c.args.first c.cells.next (c.cells.i - 1) c.cells.i c.args.to.now c.cells.to c.args.at c.cells.at c.size-next.result laid
     c.requires.ready.least c.cells.invariant.stacking (omega (arith, c.cells-test.true)) c.size-next.ensures same
 
@@ -49,13 +49,13 @@ cells-preserved g c =
     let next = c.cells.next - c.size-next.result.overs in
     let laid = laid_by (record { child = c.number.result; rowid = c.raw_of.result; next = c.number-in-cells.result }) (take c.payload_size-len.result c.fetch.new.scratch) in
     let same : laid ≡ laid_of number next (get_or items (c.cells.i - 1) no_item)
-      = laid_same self.kind self.leaf number next (get_or items (c.cells.i - 1) no_item) c.place-place.result.child (entry_at es c.place-place.result.entry) (record { child = c.number.result; rowid = c.raw_of.result; next = c.number-in-cells.result }) (take c.payload_size-len.result c.fetch.new.scratch)
-        c.place-place.ensures.item c.number.ensures (c.raw_of.ensures ∙ ap raw_of c.rowid.ensures) c.number-in-cells.ensures
-        (body_is self.kind self.leaf es c.place-place.result.entry c.payload_size-len.result c.fetch.new.scratch c.fetch.ensures.held c.payload_size-len.ensures) in
+    = laid_same self.kind self.leaf number next (get_or items (c.cells.i - 1) no_item) c.place-place.result.child (entry_at es c.place-place.result.entry) (record { child = c.number.result; rowid = c.raw_of.result; next = c.number-in-cells.result }) (take c.payload_size-len.result c.fetch.new.scratch)
+    c.place-place.ensures.item c.number.ensures (c.raw_of.ensures ∙ ap raw_of c.rowid.ensures) c.number-in-cells.ensures
+    (body_is self.kind self.leaf es c.place-place.result.entry c.payload_size-len.result c.fetch.new.scratch c.fetch.ensures.held c.payload_size-len.ensures) in
     record {
       stacking = stacking_more self.usable self.kind self.leaf number items c.args.first c.cells.next (c.cells.i - 1) c.cells.i c.args.to.now c.cells.to c.put_cell-at.new.to c.args.at c.cells.at c.put_cell-at.result c.size-next.result laid
-        c.requires.ready.least c.cells.invariant.stacking (omega (arith, c.cells-test.true)) c.size-next.ensures same
-        (omega (arith, c.put_cell-at.auto.to)) c.put_cell-at.ensures.end c.put_cell-at.ensures.front;
+          c.requires.ready.least c.cells.invariant.stacking (omega (arith, c.cells-test.true)) c.size-next.ensures same
+          (omega (arith, c.put_cell-at.auto.to)) c.put_cell-at.ensures.end c.put_cell-at.ensures.front;
       held = c.fetch.ensures.held;
       room = search rules;
     }

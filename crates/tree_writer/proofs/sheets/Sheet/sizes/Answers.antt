@@ -26,7 +26,7 @@ returns g c =
     let self = c.args.self.now in
     let items = items_of self.kind (g.N.Entries.entries self.entries.now) self.pages.now self.leaf self.page in
     let all : take c.loop-i.i items ≡ items
-      = take_all c.loop-i.i items (omega (arith, c.loop-i-test.false, items_len self.kind (g.N.Entries.entries self.entries.now) self.pages.now self.leaf self.page c.requires.ready.there)) in
+    = take_all c.loop-i.i items (omega (arith, c.loop-i-test.false, items_len self.kind (g.N.Entries.entries self.entries.now) self.pages.now self.leaf self.page c.requires.ready.there)) in
     record {
       need = c.loop-i.invariant.need ∙ ap (needs self.usable self.kind self.leaf) all;
       overs = c.loop-i.invariant.overs ∙ ap (overs self.usable self.kind) all;

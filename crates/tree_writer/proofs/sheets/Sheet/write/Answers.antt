@@ -55,8 +55,19 @@ put_cells-requires-clause-page g c =
     let self = c.args.self.now in
     let items = items_of self.kind (g.N.Entries.entries self.entries.now) self.pages.now self.leaf self.page in
     let st = page_stands self.usable self.kind self.leaf (number_of c.args.numbers.now.start c.args.numbers.now.lock) c.args.first items c.args.front c.sizes-sizes.result.need c.requires.ready.least c.requires.ready.most c.sizes-sizes.ensures.need c.requires.fits in
-    omega (arith, st.gap, st.whole, ready_len c.requires.ready, c.put_header-header.ensures.end, c.put_header-header.auto.to, c.put_pointers-top.ensures.end, c.put_pointers-top.auto.to,
-      c.put_zeros-bottom.ensures.end, c.put_zeros-bottom.auto.to, c.requires.size)
+    omega (
+      arith,
+      st.gap,
+      st.whole,
+      ready_len c.requires.ready,
+      c.put_header-header.ensures.end,
+      c.put_header-header.auto.to,
+      c.put_pointers-top.ensures.end,
+      c.put_pointers-top.auto.to,
+      c.put_zeros-bottom.ensures.end,
+      c.put_zeros-bottom.auto.to,
+      c.requires.size,
+    )
 
 pub returns-clause-bytes : goal.returns-clause-bytes
 returns-clause-bytes g c =
@@ -74,4 +85,4 @@ returns-clause-bytes g c =
     (ap (λ n. self.usable + 2 * n - c.sizes-sizes.result.need) (sym len) ∙ st.content_is)
     (sym (slots_of self.usable self.kind self.leaf number c.args.first items c.requires.ready.least))
     (ap (λ n. self.usable + 2 * self.page.cells - c.sizes-sizes.result.need - n)
-      (omega (arith, length-take c.put_pointers-top.result c.put_pointers-top.new.to, st.gap, st.whole, len, c.put_header-header.ensures.end, c.put_header-header.auto.to, c.put_pointers-top.ensures.end, c.put_pointers-top.auto.to, c.requires.size)))
+    (omega (arith, length-take c.put_pointers-top.result c.put_pointers-top.new.to, st.gap, st.whole, len, c.put_header-header.ensures.end, c.put_header-header.auto.to, c.put_pointers-top.ensures.end, c.put_pointers-top.auto.to, c.requires.size)))

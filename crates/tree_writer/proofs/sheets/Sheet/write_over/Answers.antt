@@ -28,11 +28,11 @@ returns-clause-bytes g c =
     let kept : c.local_size-kept.result ≡ kept_of self.usable self.kind e.bytes = c.local_size-kept.ensures.value ∙ ap (local_len self.kind self.usable) c.payload_len-len.ensures in
     let front : take c.payload_len-len.result c.fetch.new.scratch ≡ e.bytes = ap (λ n. take n c.fetch.new.scratch) c.payload_len-len.ensures ∙ c.fetch.ensures.held in
     let content : c.part_of-content.result.now ≡ take (self.usable - 4) (drop (kept_of self.usable self.kind e.bytes + r * (self.usable - 4)) e.bytes)
-      = c.part_of-content.ensures
-      ∙ ap (λ m. take (self.usable - 4) (drop (m + r * (self.usable - 4)) (take c.payload_len-len.result c.fetch.new.scratch))) kept
-      ∙ ap (λ (t : List ℕ). take (self.usable - 4) (drop (kept_of self.usable self.kind e.bytes + r * (self.usable - 4)) t)) front in
+    = c.part_of-content.ensures
+    ∙ ap (λ m. take (self.usable - 4) (drop (m + r * (self.usable - 4)) (take c.payload_len-len.result c.fetch.new.scratch))) kept
+    ∙ ap (λ (t : List ℕ). take (self.usable - 4) (drop (kept_of self.usable self.kind e.bytes + r * (self.usable - 4)) t)) front in
     over_written self.usable self.kind number e c.chain-chain.result.first c.args.k c.part_of-content.result.now c.put_over.new.to c.next_number.result
-      chain.low (omega (arith, chain.high, chain.many)) content
-      (c.next_number.ensures ∙ ap (λ n. if nat_eq (n - 1 - r) 0 then 0 else number (c.args.k + 1)) chain.many)
-      (c.put_over.ensures ∙ ap (λ n. big_bytes 4 c.next_number.result ++ (c.part_of-content.result.now ++ replicate (n - 4 - length c.part_of-content.result.now) 0)) c.requires.size)
+    chain.low (omega (arith, chain.high, chain.many)) content
+    (c.next_number.ensures ∙ ap (λ n. if nat_eq (n - 1 - r) 0 then 0 else number (c.args.k + 1)) chain.many)
+    (c.put_over.ensures ∙ ap (λ n. big_bytes 4 c.next_number.result ++ (c.part_of-content.result.now ++ replicate (n - 4 - length c.part_of-content.result.now) 0)) c.requires.size)
     ∙ sym (c.chain-chain.ensures.pages number)

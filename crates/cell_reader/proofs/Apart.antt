@@ -7,7 +7,7 @@ use Rattle.cell_reader.specs.declared.cells.CellView.{CellView}
 use Rattle.cell_reader.specs.declared.cells.CellFault.{CellFault}
 use Rattle.cell_reader.specs.declared.shapes.PageShape.{PageShape}
 use Rattle.cell_reader.specs.Cell.{cell_of}
-use Rattle.cell_reader.specs.Screen.{Verdict, Kept, Faulty, Overlaps, are_apart, verdict_on, held_with, screened_from, accepted_cells, verdicts, kept_from, IsApart, AreApart}
+use Rattle.cell_reader.specs.Screen.{Verdict, Accepts, Faulty, Overlaps, are_apart, verdict_on, held_with, screened_from, accepted_cells, verdicts, accepted_from, IsApart, AreApart}
 
 -- a cell is apart from a held one
 abbrev FromView : CellView → ℕ × CellView → Type 0
@@ -39,7 +39,7 @@ apart_from_all i v (w ∷ held) h =
 
 -- what a verdict says of the held cells
 abbrev Fits : ℕ → Verdict → List CellView → Type 0
-Fits i (Kept v) held = AllByRecursion (λ h. FromView h (i, v)) held
+Fits i (Accepts v) held = AllByRecursion (λ h. FromView h (i, v)) held
 Fits i (Faulty fault) held = Unit {0}
 Fits i Overlaps held = Unit {0}
 
@@ -48,20 +48,20 @@ verdict_fits i (Err fault) held = tt
 verdict_fits i (Ok v) held = go (list_all (are_apart v) held) (λ h. apart_from_all i v held h)
   where
     go : (b : Bool) → (b ≡ true → AllByRecursion (λ h. FromView h (i, v)) held)
-        → Fits i (if b then Kept v else Overlaps) held
+        → Fits i (if b then Accepts v else Overlaps) held
     go true h = h refl
     go false h = tt
 
 one_more : (i : ℕ) (w : Verdict) (held : List CellView) (rest : List Verdict) → Fits i w held
-    → AreApart (kept_from (i + 1) rest) × FromHeld (held_with w held) (kept_from (i + 1) rest)
-    → AreApart (kept_from i (w ∷ rest)) × FromHeld held (kept_from i (w ∷ rest))
-one_more i (Kept v) held rest fits more =
-    let two = firsts_of v held (kept_from (i + 1) rest) more.1 in ((two.0, more.0), (fits, two.1))
+    → AreApart (accepted_from (i + 1) rest) × FromHeld (held_with w held) (accepted_from (i + 1) rest)
+    → AreApart (accepted_from i (w ∷ rest)) × FromHeld held (accepted_from i (w ∷ rest))
+one_more i (Accepts v) held rest fits more =
+    let two = firsts_of v held (accepted_from (i + 1) rest) more.1 in ((two.0, more.0), (fits, two.1))
 one_more i (Faulty fault) held rest fits more = more
 one_more i Overlaps held rest fits more = more
 
 apart_from : (cell : ℕ → Result CellView CellFault) (n i : ℕ) (held : List CellView)
-    → AreApart (kept_from i (screened_from cell n i held)) × FromHeld held (kept_from i (screened_from cell n i held))
+    → AreApart (accepted_from i (screened_from cell n i held)) × FromHeld held (accepted_from i (screened_from cell n i held))
 apart_from cell zero i held = (tt, tt)
 apart_from cell (suc n) i held =
     one_more i (verdict_on (cell i) held) held _ (verdict_fits i (cell i) held)

@@ -1,4 +1,5 @@
 pub mod Apart
+pub mod Blocks
 pub mod Marks
 pub mod Places
 pub mod Ranges

@@ -9,7 +9,7 @@ use Rattle.std.proofs.Math.ListN.{get_or-append}
 use Rattle.cell_reader.specs.declared.cells.CellView.{CellView}
 use Rattle.cell_reader.specs.declared.cells.CellFault.{CellFault}
 use Rattle.cell_reader.specs.Cover.{is_free, with_range, covers, IsRange, Covers, marked_on, marks_with, marked_from}
-use Rattle.cell_reader.specs.Screen.{Verdict, Kept, Faulty, Overlaps, are_apart, verdict_on, held_with, screened_from}
+use Rattle.cell_reader.specs.Screen.{Verdict, Accepts, Faulty, Overlaps, are_apart, verdict_on, held_with, screened_from}
 
 either : (b : Bool) → (b ≡ true) ⊎ (b ≡ false)
 either true = inl refl
@@ -28,7 +28,7 @@ all_unset (true ∷ xs) h = let bad : true ≡ false = h 0 (omega arith) in cc
 all_unset (false ∷ xs) h = all_unset xs (λ k lt. h (suc k) (omega arith))
 
 -- a range is free exactly where none of its bytes is marked
-free_unset : (m : List Bool) (s e : ℕ) → e ≤ length m → is_free m s e ≡ true
+pub free_unset : (m : List Bool) (s e : ℕ) → e ≤ length m → is_free m s e ≡ true
     → (k : ℕ) → s ≤ k → k < e → get_or m k false ≡ false
 free_unset m s e le h k a b =
     let inside : k - s < length (take (e - s) (drop s m)) =
@@ -40,14 +40,14 @@ free_unset m s e le h k a b =
     get_or-drop s m (k - s) false in
     sym (front ∙ back ∙ ap (λ j. get_or m j false) whole) ∙ unset _ h (k - s) inside
 
-unset_free : (m : List Bool) (s e : ℕ) → ((k : ℕ) → s ≤ k → k < e → get_or m k false ≡ false) → is_free m s e ≡ true
+pub unset_free : (m : List Bool) (s e : ℕ) → ((k : ℕ) → s ≤ k → k < e → get_or m k false ≡ false) → is_free m s e ≡ true
 unset_free m s e h = all_unset _ (λ j lt.
     let small : j < e - s = omega (arith, length-take (e - s) (drop s m)) in
     let back : get_or (drop s m) j false ≡ get_or m (s + j) false = get_or-drop s m j false in
     get_or-take (e - s) (drop s m) j false small ∙ back ∙ h (s + j) (omega arith) (omega arith))
 
 -- the marks behind a range that was set
-set_mark : (m : List Bool) (s e k : ℕ) → s < e → e ≤ length m
+pub set_mark : (m : List Bool) (s e k : ℕ) → s < e → e ≤ length m
     → get_or (with_range m s e) k false ≡ ((nat_le s k && nat_lt k e) || get_or m k false)
 set_mark m s e k lt le =
     let rest : List Bool = replicate (e - s) true ++ drop e m in
@@ -177,7 +177,7 @@ same_verdict : (usable : ℕ) (marks : List Bool) (held : List CellView) (r : Re
     → IfOk r (IsRange usable) → Covers usable marks held → marked_on r marks ≡ verdict_on r held
 same_verdict usable marks held (Err fault) range c = refl
 same_verdict usable marks held (Ok v) range c =
-    ap (λ b. if b then Kept v else Overlaps) (free_apart usable marks held v c range)
+    ap (λ b. if b then Accepts v else Overlaps) (free_apart usable marks held v c range)
 
 next_covers : (usable : ℕ) (marks : List Bool) (held : List CellView) (r : Result CellView CellFault)
     → IfOk r (IsRange usable) → Covers usable marks held
@@ -185,8 +185,8 @@ next_covers : (usable : ℕ) (marks : List Bool) (held : List CellView) (r : Res
 next_covers usable marks held (Err fault) range c = c
 next_covers usable marks held (Ok v) range c = go (list_all (are_apart v) held)
   where
-    go : (b : Bool) → Covers usable (marks_with (if b then Kept v else Overlaps) marks)
-        (held_with (if b then Kept v else Overlaps) held)
+    go : (b : Bool) → Covers usable (marks_with (if b then Accepts v else Overlaps) marks)
+        (held_with (if b then Accepts v else Overlaps) held)
     go true = covers_more usable marks held v c range
     go false = c
 

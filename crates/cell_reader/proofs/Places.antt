@@ -1,5 +1,5 @@
 -- A cell that is read from its first byte stands inside its page.
-use Rattle.std.proofs.Common.{◌≡◌, ◌<◌, ◌≤◌, ℕ, ◌+◌, ◌-◌, ◌*◌, Bool, Option, Some, None, List, length, take, drop, refl, sym, subst, arith}
+use Rattle.std.proofs.Common.{◌≡◌, ◌<◌, ◌≤◌, ℕ, ◌+◌, ◌-◌, ◌*◌, Bool, true, false, Option, Some, None, List, length, take, drop, refl, sym, subst, ◌∙◌, arith}
 use Rattle.std.specs.List.{slice_range}
 use Rattle.std.specs.Bool.{MatchBool}
 use Rattle.std.proofs.lemmas.List.{length-take}
@@ -35,4 +35,14 @@ view_inside usable pages start len shape p v e parts fits behind most payload =
       overflow = subst (λ (k : ℕ). HasOverflow p.overflow k p.total) (sym kept) parts.overflow;
       most = most;
       payload = payload;
+      entry = local_some (has_payload shape.kind shape.leaf) payload;
     })
+  where
+    no_local : (overflow : Option ℕ) → HasOverflow overflow p.kept p.total → p.total ≡ 0 → p.kept ≡ 0
+    no_local None all none = all ∙ none
+    no_local (Some page) less none = absurd (omega (arith, less, none))
+
+    local_some : (b : Bool) → MatchBool b (1 ≤ p.total) (p.total ≡ 0)
+        → MatchBool b (start + p.from < start + p.from + p.kept) (start + p.from ≡ start + p.from + p.kept)
+    local_some true some = let kept : 1 ≤ p.kept = parts.entry some in omega arith
+    local_some false none = let kept : p.kept ≡ 0 = no_local p.overflow parts.overflow none in omega arith

@@ -29,15 +29,19 @@ pub record IsParts (len : ℕ) (p : Parts) : Type 0 where
   pub whole : p.size ≤ len
   pub local : p.from + p.kept ≤ p.size
   pub overflow : HasOverflow p.overflow p.kept p.total
+  pub entry : 1 ≤ p.total → 1 ≤ p.kept
 
 -- a cell inside the usable bytes of a page with this shape, in a file of that many pages
 pub record IsInside (usable pages : ℕ) (shape : PageShape) (v : CellView) : Type 0 where
   pub some : v.start < v.end
   pub within : v.end ≤ usable
   pub behind : shape.array_end ≤ v.start
-  pub first : v.start ≤ v.local_start
+  -- its numbers stand before its local bytes
+  pub first : v.start < v.local_start
   pub local : v.local_start ≤ v.local_end
   pub last : v.local_end ≤ v.end
   pub overflow : HasOverflow v.overflow (v.local_end - v.local_start) v.total
   pub most : v.total ≤ pages * usable
   pub payload : MatchBool (has_payload shape.kind shape.leaf) (1 ≤ v.total) (v.total ≡ 0)
+  -- a payload has a local byte
+  pub entry : MatchBool (has_payload shape.kind shape.leaf) (v.local_start < v.local_end) (v.local_start ≡ v.local_end)

@@ -9,7 +9,7 @@ use Rattle.cell_reader.specs.Shape.{right_of}
 
 -- what becomes of a cell: it is accepted, its bytes have a fault, or it overlaps an accepted cell
 pub data Verdict : Type 0 where
-  Kept : CellView → Verdict
+  Accepts : CellView → Verdict
   Faulty : CellFault → Verdict
   Overlaps : Verdict
 
@@ -20,11 +20,11 @@ are_apart v w = nat_le v.end w.start || nat_le w.end v.start
 -- the verdict on a cell, where `held` are the accepted cells before it
 abbrev pub verdict_on : Result CellView CellFault → List CellView → Verdict
 verdict_on (Err fault) held = Faulty fault
-verdict_on (Ok v) held = if list_all (are_apart v) held then Kept v else Overlaps
+verdict_on (Ok v) held = if list_all (are_apart v) held then Accepts v else Overlaps
 
 -- the accepted cells up to a cell with this verdict
 abbrev pub held_with : Verdict → List CellView → List CellView
-held_with (Kept v) held = v ∷ held
+held_with (Accepts v) held = v ∷ held
 held_with (Faulty fault) held = held
 held_with Overlaps held = held
 
@@ -43,15 +43,15 @@ unfoldable pub verdicts : List ℕ → ℕ → ℕ → PageShape → List Verdic
 verdicts page usable pages shape = screened (cell_of page usable pages shape) shape.cells
 
 -- the accepted cells among those from cell i on, each with its number
-abbrev pub kept_from : ℕ → List Verdict → List (ℕ × CellView)
-kept_from i [] = []
-kept_from i (Kept v ∷ rest) = (i, v) ∷ kept_from (i + 1) rest
-kept_from i (Faulty fault ∷ rest) = kept_from (i + 1) rest
-kept_from i (Overlaps ∷ rest) = kept_from (i + 1) rest
+abbrev pub accepted_from : ℕ → List Verdict → List (ℕ × CellView)
+accepted_from i [] = []
+accepted_from i (Accepts v ∷ rest) = (i, v) ∷ accepted_from (i + 1) rest
+accepted_from i (Faulty fault ∷ rest) = accepted_from (i + 1) rest
+accepted_from i (Overlaps ∷ rest) = accepted_from (i + 1) rest
 
 -- the accepted cells of a page with this shape in cell order, each with its number
 abbrev pub accepted_cells : List ℕ → ℕ → ℕ → PageShape → List (ℕ × CellView)
-accepted_cells page usable pages shape = kept_from 0 (verdicts page usable pages shape)
+accepted_cells page usable pages shape = accepted_from 0 (verdicts page usable pages shape)
 
 -- the page numbers that an interior page names: the child of each accepted cell, and then the
 -- right-most pointer

@@ -1,21 +1,30 @@
 //! Which bytes of a page stand in accepted cells.
-ghost use Rattle.std.specs.Prelude.{◌≡◌, ◌≤◌, ◌<◌, Bool, List, IfOk, false, if◌then◌else◌, length, replicate};
-ghost use Rattle.cell_reader.specs.Cover.{is_free, with_range};
+ghost use Rattle.std.specs.Prelude.{◌≡◌, ◌≤◌, ◌<◌, Bool, List, IfOk, false, if◌then◌else◌, length, not, replicate};
+ghost use Rattle.std.specs.List.{list_all};
+ghost use Rattle.cell_reader.specs.Cover.{IsBlocked, is_free, with_range};
 
 use std::alloc::{AllocError, Global};
 use std::marker::Model;
+
+/// How many marks a block has.
+const BLOCK: usize = 256;
 
 /// Ranges of a page's bytes that share no byte, seen as a mark for each usable byte: whether it stands
 /// in a held range.
 #[derive(Drop)]
 pub struct Accepted {
     marks: Vec<bool>,
+    // Whether a block of marks may have one that is set. A block in which none is set is passed over
+    // at once, so that no range costs much more than its length in blocks.
+    blocks: Vec<bool>,
 }
 
 impl Model for Accepted {
     ghost Value = { List Bool };
 
     ghost view = { λ s. s.marks.items };
+
+    ghost invariant = { λ s. IsBlocked s.marks.items s.blocks.items };
 }
 
 impl Accepted {
@@ -25,6 +34,7 @@ impl Accepted {
     {
         Ok(Accepted {
             marks: vec![in alloc; false; usable as usize]?,
+            blocks: vec![in alloc; false; usable as usize / BLOCK + 1]?,
         })
     }
 
@@ -33,6 +43,7 @@ impl Accepted {
         ensures { self.new ≡ replicate (length self.old) false }
     {
         self.marks.as_mut_slice().fill(false);
+        self.blocks.as_mut_slice().fill(false);
     }
 
     /// Holds the range from `start` to before `end` where it shares no byte with a held range, and
@@ -44,11 +55,57 @@ impl Accepted {
         ensures held { self.new ≡ (if result then with_range self.old start end else self.old) }
         ensures len { length self.new ≡ length self.old }
     {
-        let range = &mut self.marks[start as usize..end as usize];
-        let free = range.iter().all(|mark| !*mark);
+        let free = self.is_free(start as usize, end as usize);
         if free {
-            range.fill(true);
+            self.hold(start as usize, end as usize);
         }
         free
     }
+
+    fn is_free(&self, start: usize, end: usize) -> bool
+        requires some { start < end }
+        requires within { end ≤ length self.now }
+        ensures { result ≡ is_free self.now start end }
+    {
+        let mut at = start;
+        while at < end {
+            let block = at / BLOCK;
+            let stop = end.min((block + 1) * BLOCK);
+            if self.blocks[block] && !is_clear(&self.marks[at..stop]) {
+                return false;
+            }
+            at = stop;
+        }
+        true
+    }
+
+    fn hold(&mut self, start: usize, end: usize)
+        requires some { start < end }
+        requires within { end ≤ length self.old }
+        ensures held { self.new ≡ with_range self.old start end }
+        ensures len { length self.new ≡ length self.old }
+    {
+        set_range(self.marks.as_mut_slice(), start, end);
+        set_range(
+            self.blocks.as_mut_slice(),
+            start / BLOCK,
+            (end - 1) / BLOCK + 1,
+        );
+    }
+}
+
+// Whether no mark is set.
+fn is_clear(marks: &[bool]) -> bool
+    ensures { result ≡ list_all not marks.now }
+{
+    marks.iter().all(|mark| !*mark)
+}
+
+// Sets the marks from `start` to before `end`.
+fn set_range(marks: &mut [bool], start: usize, end: usize)
+    requires some { start < end }
+    requires within { end ≤ length marks.old }
+    ensures { marks.new ≡ with_range marks.old start end }
+{
+    marks[start..end].fill(true);
 }

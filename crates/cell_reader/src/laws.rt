@@ -1,5 +1,5 @@
 //! What the definitions of accepted cells say.
-ghost use Rattle.cell_reader.specs.Laws.{AcceptedAreApart, MarksTellVerdicts};
+ghost use Rattle.cell_reader.specs.Laws.{AcceptedAreApart, MarksTellVerdicts, OffersTellRanges};
 
 /// No two accepted cells of a page share a byte.
 pub fn accepted_cells_are_apart()
@@ -10,4 +10,9 @@ pub fn accepted_cells_are_apart()
 /// none of whose bytes is marked, accepts the cells that overlap no accepted cell before them.
 pub fn marks_tell_verdicts()
     ensures { MarksTellVerdicts }
+{}
+
+/// An offer is taken exactly where the range shares no byte with those that are held.
+pub fn offers_tell_ranges()
+    ensures { OffersTellRanges }
 {}

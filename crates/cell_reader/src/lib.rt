@@ -10,7 +10,8 @@ mod shapes;
 
 pub use accepted::Accepted;
 pub use cells::{CellFault, CellView, cell};
-pub use laws::{accepted_cells_are_apart, marks_tell_verdicts};
+pub use laws::{accepted_cells_are_apart, marks_tell_verdicts, offers_tell_ranges};
+pub use parts::local_size;
 pub use shapes::{Kind, PageShape, right_child, shape};
 
 #[cfg(test)]

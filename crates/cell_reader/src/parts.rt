@@ -55,13 +55,15 @@ fn most_local_len(kind: Kind, usable: u32) -> u32
     }
 }
 
-// Local bytes of a payload.
+/// How many of a payload's `total` bytes stand on a page of this kind with `usable` bytes, 480 to 65536;
+/// the others stand on overflow pages (fileformat2.html, 1.6).
 #[tactic(auto, unfolding(crate::specs::Cell::local_len))]
-fn local_size(kind: Kind, usable: u32, total: u64) -> u64
+pub fn local_size(kind: Kind, usable: u32, total: u64) -> u64
     requires least { 480 ≤ usable }
     requires most { usable ≤ 65536 }
     ensures value { result ≡ local_len kind usable total }
     ensures within { result ≤ total }
+    ensures some { 1 ≤ total → 1 ≤ result }
     ensures fits { result < usable }
 {
     let most = u64::from(most_local_len(kind, usable));

@@ -205,3 +205,15 @@ fn a_range_is_accepted_where_it_shares_no_byte_with_an_accepted_one(
     assert!(rt; accepted.offer(90, 130));
     Ok(())
 }
+
+#[test]
+fn ranges_over_many_blocks_are_told_apart(rt: HostRuntime) -> Result<(), Fail> {
+    let mut accepted = Accepted::new(rt.alloc(), 65536)?;
+    assert!(rt; accepted.offer(1000, 1001));
+    assert!(rt; !accepted.offer(1, 60000));
+    assert!(rt; accepted.offer(1001, 60000));
+    assert!(rt; accepted.offer(1, 1000));
+    assert!(rt; !accepted.offer(59999, 65536));
+    assert!(rt; accepted.offer(60000, 65536));
+    Ok(())
+}

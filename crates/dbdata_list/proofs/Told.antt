@@ -2,6 +2,10 @@
 use Rattle.std.proofs.Common.{◌≡◌, ap, arith, ℕ, suc, ◌+◌, ◌-◌, ◌<◌, ◌≤◌, List, [], ◌++◌, Option, Some, None, Result, Ok, Err, IsErr, IsErrAnd, IsErrOf, sym, subst}
 use Rattle.std.specs.Prelude.{IfSome}
 use Rattle.page_access.specs.Outside.{WritesOf}
+use Rattle.page_access.specs.declared.outside.ReadFault.{ReadFault}
+use Rattle.page_access.specs.declared.outside.ReadFault.TheVariants as reads
+use Rattle.dbdata_list.specs.declared.faults.ListFault.TheVariants.{Sink}
+use Rattle.dbdata_list.specs.Faults.{of_read}
 use Rattle.dbdata_list.specs.Listing.{pages_text}
 use Rattle.page_access.proofs.Gains.{WroteFront, front_as, front_end_of, front_left, front_out_from, front_start, front_step_of}
 
@@ -25,13 +29,13 @@ told_step {T = T} x fault (Some bytes) told' old now new f g h rest piece next a
 
 -- listing a page failed
 pub told_out : (T : Type 0) {E T' E' : Type 0} (e inner : E) (r : Result T' E') (fault : E') (told told' old now new : Option (List ℕ)) (f g h : ℕ) (rest piece next all : List ℕ → List ℕ) →
-    IsErr r → (IsErrOf r fault → e ≡ inner) → told' ≡ told → ((bytes : List ℕ) → rest bytes ≡ piece bytes ++ next bytes) → ToldFront told old now f g rest all
+    IsErr r → (IsErrOf r fault → e ≡ inner) → (e ≡ inner → IsErrOf r fault) → told' ≡ told → ((bytes : List ℕ) → rest bytes ≡ piece bytes ++ next bytes) → ToldFront told old now f g rest all
     → IfSome told' (λ bytes. WritesOf {T = T} inner now new g h (piece bytes) (Err e)) → IfSome told (λ bytes. WritesOf fault old new f h (all bytes) r)
-told_out T e inner r fault None told' old now new f g h rest piece next all is from same parts w written = tt
-told_out T e inner r fault (Some bytes) told' old now new f g h rest piece next all is from same parts w written =
+told_out T e inner r fault None told' old now new f g h rest piece next all is from back same parts w written = tt
+told_out T e inner r fault (Some bytes) told' old now new f g h rest piece next all is from back same parts w written =
     let one : WritesOf {T = T} inner now new g h (piece bytes) (Err e) =
     subst (λ o. IfSome o (λ b. WritesOf {T = T} inner now new g h (piece b) (Err e))) same written in
-    front_out_from fault (next bytes) is from (front_as (parts bytes) w) one
+    front_out_from fault (next bytes) is from back (front_as (parts bytes) w) one
 
 -- all pages are listed
 pub told_end : {T E : Type 0} (x : T) (fault : E) (told old now : Option (List ℕ)) (f g : ℕ) (rest all : List ℕ → List ℕ) →
@@ -54,6 +58,11 @@ pub passed_on : {T E : Type 0} (r : Result T E) (e fault : E) → IsErrAnd r (λ
 passed_on (Ok x) e fault h is = absurd h
 passed_on (Err x) e fault h is = let same : x ≡ e = h in cc
 
+-- and one that is passed on is the answer
+pub passed_back : {T E : Type 0} (r : Result T E) (e fault : E) → IsErrAnd r (λ x. x ≡ e) → e ≡ fault → IsErrOf r fault
+passed_back (Ok x) e fault h is = absurd h
+passed_back (Err x) e fault h is = let same : x ≡ e = h in cc
+
 -- the rest in other words: by the unused pages that a page left
 pub told_with : (told told' old now : Option (List ℕ)) (f g : ℕ) (text : List ℕ → List ℕ → List ℕ) (wanted : List ℕ → List ℕ) (left : List ℕ) (all : List ℕ → List ℕ)
     → told' ≡ told → IfSome told' (λ bytes. left ≡ wanted bytes) → ToldFront told old now f g (λ bytes. text bytes (wanted bytes)) all
@@ -68,3 +77,8 @@ pub told_left : {T E : Type 0} (r : Result T E) (fault : E) (told old : Option (
     → IfSome told (λ bytes. WritesOf fault old old f f (all bytes) r)
 told_left r fault None old f all is other = tt
 told_left r fault (Some bytes) old f all is other = front_left fault is other (front_start old f (all bytes))
+
+-- no fault of a read is the sink's
+pub read_is_not_sink : (fault : ReadFault) → of_read fault ≡ Sink → ⊥
+read_is_not_sink reads.Source e = cc
+read_is_not_sink reads.Memory e = cc

@@ -1,28 +1,9 @@
 -- Lines of the listings (docs/TEXTS.md, "Listings").
 use Rattle.std.specs.Prelude.{ℕ, ℤ, ◌+◌, List, [], ◌∷◌, ◌++◌, Option, Some, None, codes, decimal}
-use Rattle.std.specs.Fmt.{signed_decimal}
-use Rattle.hex.specs.Hex.{encode_lower}
 use Rattle.record_core.specs.declared.values.Value.{Value}
-use Rattle.page_walk.specs.Cells.{Outcome, Read, Lost}
-use Rattle.page_walk.specs.declared.causes.CellCause.{CellCause}
-use Rattle.page_walk.specs.declared.causes.CellCause.TheVariants.{Pointer, Cut, Length, Overlap, Chain, BadRecord}
-use Rattle.record_core.specs.declared.values.Value.TheVariants.{Null, Whole, Real8, Text, Blob}
-
--- the text of a value
-abbrev pub value_text : Value → List ℕ
-value_text Null = codes "null"
-value_text (Whole n) = codes "int:" ++ signed_decimal n
-value_text (Real8 bytes) = codes "real:" ++ encode_lower bytes
-value_text (Text bytes) = codes "text:" ++ encode_lower bytes
-value_text (Blob bytes) = codes "blob:" ++ encode_lower bytes
-
--- the end of a line
-abbrev pub newline : List ℕ
-newline = 10 ∷ []
-
--- `PAGE CELL `, which begins each line of a cell
-unfoldable pub place_text : ℕ → ℕ → List ℕ
-place_text page cell = decimal page ++ (codes " " ++ (decimal cell ++ codes " "))
+use Rattle.line_text.specs.Text.{cause_text, newline, place_text, value_text}
+use Rattle.page_walk.specs.Cells.{Outcome, Read, Unread}
+use Rattle.record_core.specs.declared.values.Value.TheVariants.{Whole}
 
 -- `PAGE CELL FIELD `, which begins the line of a field
 unfoldable pub field_text : ℕ → ℕ → List ℕ → List ℕ
@@ -63,19 +44,10 @@ abbrev pub pointer_lines : ℕ → List ℕ → List ℕ
 pointer_lines page [] = []
 pointer_lines page (child ∷ children) = pointer_line page child ++ pointer_lines page children
 
--- the word for the cause of a cell that is not read
-abbrev pub cause_text : CellCause → List ℕ
-cause_text Pointer = codes "pointer"
-cause_text Cut = codes "cut"
-cause_text Length = codes "length"
-cause_text Overlap = codes "overlap"
-cause_text Chain = codes "chain"
-cause_text BadRecord = codes "record"
-
 -- the lines of a cell
 abbrev pub outcome_text : ℕ → Outcome → List ℕ
 outcome_text page (Read row) = row_text page row.cell row.rowid row.fields
-outcome_text page (Lost cell cause chain) = unread_line page cell (cause_text cause)
+outcome_text page (Unread u) = unread_line page u.cell (cause_text u.cause)
 
 -- the lines of cells, in order
 abbrev pub outcomes_text : ℕ → List Outcome → List ℕ

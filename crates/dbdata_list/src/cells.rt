@@ -1,18 +1,21 @@
 //! The listing of all cells.
 ghost use Rattle.std.specs.Prelude.{◌≡◌, ◌≤◌, ◌+◌, length, map, IfSome, OnOk};
+ghost use Rattle.page_access.specs.Cache.{IsCacheOf};
 ghost use Rattle.page_access.specs.Files.{file_of};
 ghost use Rattle.page_access.specs.Outside.{HasCauseOf, KeepsSink, KeepsSource, Writes, WritesOf};
 ghost use Rattle.page_lists.specs.Table.{unused};
 ghost use Rattle.page_walk.specs.Cells.{outcome_of};
 ghost use Rattle.page_walk.specs.Turns.{left_by};
 ghost use Rattle.dbdata_list.specs.Listing.{data_text, page_data};
-ghost use Rattle.dbdata_list.specs.Text.{cause_text, outcome_text, outcomes_text};
+ghost use Rattle.dbdata_list.specs.Text.{outcome_text, outcomes_text};
 
 use crate::faults::ListFault;
 use crate::lines::{put_row, put_unread};
-use page_access::{Failed, Geometry, Sink, Source};
+use cell_reader::Accepted;
+use line_text::cause_word;
+use page_access::{Failed, Geometry, PageCache, Sink, Source};
 use page_lists::PageTable;
-use page_walk::{CellCause, CellOutcome, LISTS, cells_of};
+use page_walk::{CellOutcome, LISTS, cells_with};
 use std::alloc::Global;
 
 /// Lists every cell of every page in rising order: a line `PAGE CELL FIELD VALUE` for each value of a
@@ -29,28 +32,49 @@ pub fn list_data<S: Source, R: Sink>(
     ensures source { HasCauseOf ListFault.Source (S.faults src.old) (S.faults src.new) result }
     ensures sink { HasCauseOf ListFault.Sink (R.faults to.old) (R.faults to.new) result }
     ensures kept { KeepsSource S.bytes S.attached S.faults S.reads src.old src.new }
-    ensures kept_sink { KeepsSink R.created R.faults to.old to.new }
+    ensures kept_sink { KeepsSink R.created R.finished R.faults to.old to.new }
 {
     let mut table = PageTable::new(alloc, geo.pages, LISTS)?;
+    let mut cache = PageCache::new(alloc, geo, 1)?;
+    let mut bytes = vec![in alloc; 0; geo.page_size as usize]?;
+    let buffer = bytes.as_mut_slice();
+    let mut accepted = Accepted::new(alloc, geo.usable)?;
     for done in 0..geo.pages {
-        list_cells(alloc, src, geo, &mut table, done + 1, to)?;
+        list_cells(
+            alloc,
+            src,
+            geo,
+            &mut cache,
+            &mut table,
+            done + 1,
+            buffer,
+            &mut accepted,
+            to,
+        )?;
     }
     Ok(())
 }
 
-// Lists the cells of page `page` at their turns.
+// Lists the cells of page `page` at their turns. `buffer` is for the bytes of the page, `accepted` for those of its
+// cells.
 fn list_cells<S: Source, R: Sink>(
     alloc: Global,
     src: &mut S,
     geo: &Geometry,
+    cache: &mut PageCache,
     table: &mut PageTable,
     page: u32,
+    buffer: &mut [u8],
+    accepted: &mut Accepted,
     to: &mut R,
 ) -> Result<(), ListFault>
     requires page_least { 1 ≤ page }
     requires page_most { page ≤ geo.now.pages }
     requires same_pages { table.old.pages ≡ geo.now.pages }
     requires lists { 7 ≤ length table.old.lists }
+    requires size { length buffer.old ≡ geo.now.page_size }
+    requires marks { length accepted.old ≡ geo.now.usable }
+    requires cached { IsCacheOf (S.bytes src.old) geo.now cache.old }
     ensures text { IfSome (S.bytes src.old) (λ all.
         WritesOf ListFault.Sink (R.bytes to.old) (R.bytes to.new) (R.faults to.old)
         (R.faults to.new) (page_data (file_of all geo.now) page (unused table.old)) result) }
@@ -58,13 +82,17 @@ fn list_cells<S: Source, R: Sink>(
         (λ all. unused table.new ≡ left_by (file_of all geo.now) page (unused table.old))) }
     ensures pages { OnOk result (table.new.pages ≡ table.old.pages) }
     ensures lists_kept { OnOk result (length table.new.lists ≡ length table.old.lists) }
+    ensures cached { IsCacheOf (S.bytes src.old) geo.now cache.new }
+    ensures marks { length accepted.new ≡ length accepted.old }
     ensures source { HasCauseOf ListFault.Source (S.faults src.old) (S.faults src.new) result }
     ensures sink { HasCauseOf ListFault.Sink (R.faults to.old) (R.faults to.new) result }
     ensures kept { KeepsSource S.bytes S.attached S.faults S.reads src.old src.new }
-    ensures kept_sink { KeepsSink R.created R.faults to.old to.new }
+    ensures kept_sink { KeepsSink R.created R.finished R.faults to.old to.new }
 {
     let mut cells = Vec::new(alloc);
-    cells_of(alloc, src, geo, table, page, &mut cells)?;
+    cells_with(
+        alloc, src, geo, cache, table, page, buffer, accepted, &mut cells,
+    )?;
     put_cells(to, page, &cells)?;
     Ok(())
 }
@@ -73,7 +101,7 @@ fn list_cells<S: Source, R: Sink>(
 fn put_cells<R: Sink>(to: &mut R, page: u32, cells: &[CellOutcome]) -> Result<(), Failed>
     ensures writes { Writes (R.bytes to.old) (R.bytes to.new) (R.faults to.old) (R.faults to.new)
         (outcomes_text page (map outcome_of cells.now)) result }
-    ensures kept { KeepsSink R.created R.faults to.old to.new }
+    ensures kept { KeepsSink R.created R.finished R.faults to.old to.new }
 {
     for cell in cells {
         put_cell(to, page, cell)?;
@@ -85,7 +113,7 @@ fn put_cells<R: Sink>(to: &mut R, page: u32, cells: &[CellOutcome]) -> Result<()
 fn put_cell<R: Sink>(to: &mut R, page: u32, cell: &CellOutcome) -> Result<(), Failed>
     ensures writes { Writes (R.bytes to.old) (R.bytes to.new) (R.faults to.old) (R.faults to.new)
         (outcome_text page (outcome_of cell.now)) result }
-    ensures kept { KeepsSink R.created R.faults to.old to.new }
+    ensures kept { KeepsSink R.created R.finished R.faults to.old to.new }
 {
     match cell {
         CellOutcome::Taken(taken) => put_row(
@@ -95,21 +123,6 @@ fn put_cell<R: Sink>(to: &mut R, page: u32, cell: &CellOutcome) -> Result<(), Fa
             taken.rowid,
             &taken.fields,
         ),
-        CellOutcome::Unread { cell, cause, .. } => put_unread(to, page, *cell, word(*cause)),
-    }
-}
-
-// The word for the cause of a cell that is not read.
-fn word(cause: CellCause) -> &'static str
-    ensures text { result.now ≡ cause_text cause }
-    ensures short { length result.now ≤ 32 }
-{
-    match cause {
-        CellCause::Pointer => "pointer",
-        CellCause::Cut => "cut",
-        CellCause::Length => "length",
-        CellCause::Overlap => "overlap",
-        CellCause::Chain => "chain",
-        CellCause::BadRecord => "record",
+        CellOutcome::Unread { cell, cause, .. } => put_unread(to, page, *cell, cause_word(*cause)),
     }
 }

@@ -8,5 +8,4 @@ mod pointers;
 
 pub use cells::list_data;
 pub use faults::ListFault;
-pub use lines::{Line, add, place, put_hex};
 pub use pointers::list_pointers;

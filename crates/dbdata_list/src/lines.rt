@@ -5,15 +5,13 @@ ghost use Rattle.arrayvec.specs.ArrayVec.{array_vec_len};
 ghost use Rattle.hex.specs.Hex.{encode_lower};
 ghost use Rattle.page_access.specs.Outside.{Writes, KeepsSink};
 ghost use Rattle.record_core.specs.declared.values.Value.TheVariants.{Null, Whole};
-ghost use Rattle.dbdata_list.specs.Text.{field_line, pointer_line, field_text, fields_text, newline, place_text, row_text, rowid_text, unread_line, word_line};
+ghost use Rattle.line_text.specs.Text.{newline};
+ghost use Rattle.dbdata_list.specs.Text.{field_line, field_text, fields_text, pointer_line, row_text, rowid_text, unread_line, word_line};
 
-use arrayvec::ArrayVec;
 use itoa::Buffer;
+use line_text::{Line, add, place, put_hex};
 use page_access::{Failed, Sink};
 use record_core::Value;
-
-/// A line, or its beginning: a few numbers and short words, 128 bytes at most.
-pub type Line = ArrayVec<u8, 128>;
 
 /// Puts the lines of a row: its rowid, then its fields.
 pub(crate) fn put_row<R: Sink>(
@@ -25,7 +23,7 @@ pub(crate) fn put_row<R: Sink>(
 ) -> Result<(), Failed>
     ensures writes { Writes (R.bytes to.old) (R.bytes to.new) (R.faults to.old) (R.faults to.new)
         (row_text page cell rowid values.now) result }
-    ensures kept { KeepsSink R.created R.faults to.old to.new }
+    ensures kept { KeepsSink R.created R.finished R.faults to.old to.new }
 {
     put_rowid(to, page, cell, rowid)?;
     put_fields(to, page, cell, values)
@@ -35,7 +33,7 @@ pub(crate) fn put_row<R: Sink>(
 fn put_rowid<R: Sink>(to: &mut R, page: u32, cell: u32, rowid: Option<i64>) -> Result<(), Failed>
     ensures writes { Writes (R.bytes to.old) (R.bytes to.new) (R.faults to.old) (R.faults to.new)
         (rowid_text page cell rowid) result }
-    ensures kept { KeepsSink R.created R.faults to.old to.new }
+    ensures kept { KeepsSink R.created R.finished R.faults to.old to.new }
 {
     match rowid {
         Some(rowid) => put_whole(to, page, cell, b"-1", rowid),
@@ -47,7 +45,7 @@ fn put_rowid<R: Sink>(to: &mut R, page: u32, cell: u32, rowid: Option<i64>) -> R
 fn put_fields<R: Sink>(to: &mut R, page: u32, cell: u32, values: &[Value]) -> Result<(), Failed>
     ensures writes { Writes (R.bytes to.old) (R.bytes to.new) (R.faults to.old) (R.faults to.new)
         (fields_text page cell 0 values.now) result }
-    ensures kept { KeepsSink R.created R.faults to.old to.new }
+    ensures kept { KeepsSink R.created R.finished R.faults to.old to.new }
 {
     for (field, value) in values.iter().enumerate() {
         put_numbered(to, page, cell, field, value)?;
@@ -65,7 +63,7 @@ fn put_numbered<R: Sink>(
 ) -> Result<(), Failed>
     ensures writes { Writes (R.bytes to.old) (R.bytes to.new) (R.faults to.old) (R.faults to.new)
         (field_line page cell (decimal field) value.now) result }
-    ensures kept { KeepsSink R.created R.faults to.old to.new }
+    ensures kept { KeepsSink R.created R.finished R.faults to.old to.new }
 {
     put_field(
         to,
@@ -87,7 +85,7 @@ pub(crate) fn put_unread<R: Sink>(
     requires { length cause.now ≤ 32 }
     ensures writes { Writes (R.bytes to.old) (R.bytes to.new) (R.faults to.old) (R.faults to.new)
         (unread_line page cell cause.now) result }
-    ensures kept { KeepsSink R.created R.faults to.old to.new }
+    ensures kept { KeepsSink R.created R.finished R.faults to.old to.new }
 {
     let mut line = place(u64::from(page), u64::from(cell));
     add(&mut line, b"unread ");
@@ -101,7 +99,7 @@ pub(crate) fn put_unread<R: Sink>(
 pub(crate) fn put_pointer<R: Sink>(to: &mut R, page: u32, child: u32) -> Result<(), Failed>
     ensures writes { Writes (R.bytes to.old) (R.bytes to.new) (R.faults to.old) (R.faults to.new)
         (pointer_line page child) result }
-    ensures kept { KeepsSink R.created R.faults to.old to.new }
+    ensures kept { KeepsSink R.created R.finished R.faults to.old to.new }
 {
     let mut line = Line::new();
     add(&mut line, Buffer::new().format(page).as_bytes());
@@ -123,7 +121,7 @@ fn put_field<R: Sink>(
     requires { length field.now ≤ 20 }
     ensures writes { Writes (R.bytes to.old) (R.bytes to.new) (R.faults to.old) (R.faults to.new)
         (field_line page cell field.now value.now) result }
-    ensures kept { KeepsSink R.created R.faults to.old to.new }
+    ensures kept { KeepsSink R.created R.finished R.faults to.old to.new }
 {
     match value {
         Value::Null => put_null(to, page, cell, field),
@@ -140,7 +138,7 @@ fn put_null<R: Sink>(to: &mut R, page: u32, cell: u32, field: &[u8]) -> Result<(
     requires { length field.now ≤ 20 }
     ensures writes { Writes (R.bytes to.old) (R.bytes to.new) (R.faults to.old) (R.faults to.new)
         (field_line page cell field.now Null) result }
-    ensures kept { KeepsSink R.created R.faults to.old to.new }
+    ensures kept { KeepsSink R.created R.finished R.faults to.old to.new }
 {
     let mut line = head(page, cell, field);
     add(&mut line, b"null\n");
@@ -159,7 +157,7 @@ fn put_whole<R: Sink>(
     requires { length field.now ≤ 20 }
     ensures writes { Writes (R.bytes to.old) (R.bytes to.new) (R.faults to.old) (R.faults to.new)
         (field_line page cell field.now (Whole number)) result }
-    ensures kept { KeepsSink R.created R.faults to.old to.new }
+    ensures kept { KeepsSink R.created R.finished R.faults to.old to.new }
 {
     put_word(
         to,
@@ -185,7 +183,7 @@ fn put_word<R: Sink>(
     requires word { length name.now + length word.now ≤ 64 }
     ensures writes { Writes (R.bytes to.old) (R.bytes to.new) (R.faults to.old) (R.faults to.new)
         (word_line page cell field.now name.now word.now) result }
-    ensures kept { KeepsSink R.created R.faults to.old to.new }
+    ensures kept { KeepsSink R.created R.finished R.faults to.old to.new }
 {
     let mut line = head(page, cell, field);
     add(&mut line, name);
@@ -207,7 +205,7 @@ fn put_bytes<R: Sink>(
     requires name { length name.now ≤ 8 }
     ensures writes { Writes (R.bytes to.old) (R.bytes to.new) (R.faults to.old) (R.faults to.new)
         (word_line page cell field.now name.now (encode_lower bytes.now)) result }
-    ensures kept { KeepsSink R.created R.faults to.old to.new }
+    ensures kept { KeepsSink R.created R.finished R.faults to.old to.new }
 {
     put_name(to, page, cell, field, name)?;
     put_hex(to, bytes)?;
@@ -226,40 +224,11 @@ fn put_name<R: Sink>(
     requires name { length name.now ≤ 8 }
     ensures writes { Writes (R.bytes to.old) (R.bytes to.new) (R.faults to.old) (R.faults to.new)
         (field_text page cell field.now ++ name.now) result }
-    ensures kept { KeepsSink R.created R.faults to.old to.new }
+    ensures kept { KeepsSink R.created R.finished R.faults to.old to.new }
 {
     let mut line = head(page, cell, field);
     add(&mut line, name);
     to.put(line.as_slice())
-}
-
-/// Puts two small hexadecimal digits for each byte, at most 128 digits in one call of the sink.
-/// After an error a front of the digits is there.
-pub fn put_hex<R: Sink>(to: &mut R, bytes: &[u8]) -> Result<(), Failed>
-    ensures writes { Writes (R.bytes to.old) (R.bytes to.new) (R.faults to.old) (R.faults to.new)
-        (encode_lower bytes.now) result }
-    ensures kept { KeepsSink R.created R.faults to.old to.new }
-{
-    let mut rest = bytes;
-    while rest.len() > 64 {
-        let (piece, behind) = rest.split_at(64);
-        put_digits(to, piece)?;
-        rest = behind;
-    }
-    put_digits(to, rest)
-}
-
-// Puts a few bytes in hexadecimal digits.
-fn put_digits<R: Sink>(to: &mut R, bytes: &[u8]) -> Result<(), Failed>
-    requires { length bytes.now ≤ 64 }
-    ensures writes { Writes (R.bytes to.old) (R.bytes to.new) (R.faults to.old) (R.faults to.new)
-        (encode_lower bytes.now) result }
-    ensures kept { KeepsSink R.created R.faults to.old to.new }
-{
-    let mut digits = [0; 128];
-    let room = &mut digits[..2 * bytes.len()];
-    hex::encode_to_slice(bytes, room).unwrap();
-    to.put(room)
 }
 
 // The beginning of a field's line, up to its value.
@@ -273,28 +242,4 @@ fn head(page: u32, cell: u32, field: &[u8]) -> Line
     add(&mut line, field);
     add(&mut line, b" ");
     line
-}
-
-/// The beginning of a cell's line: the number of its page, counted from 1, and its own number
-/// there, counted from 0, with a space behind each. These are 42 bytes at most.
-#[tactic(auto, unfolding(crate::specs::Text::place_text))]
-pub fn place(page: u64, cell: u64) -> Line
-    ensures text { result.items ≡ place_text page cell }
-    ensures len { array_vec_len result ≤ 42 }
-{
-    let mut line = Line::new();
-    add(&mut line, Buffer::new().format(page).as_bytes());
-    add(&mut line, b" ");
-    add(&mut line, Buffer::new().format(cell).as_bytes());
-    add(&mut line, b" ");
-    line
-}
-
-/// Appends the bytes of a word to a line that has room for them.
-pub fn add(line: &mut Line, word: &[u8])
-    requires { array_vec_len line.old + length word.now ≤ 128 }
-    ensures text { line.new.items ≡ line.old.items ++ word.now }
-    ensures len { array_vec_len line.new ≡ array_vec_len line.old + length word.now }
-{
-    line.try_extend_from_slice(word).unwrap();
 }

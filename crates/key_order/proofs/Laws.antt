@@ -9,18 +9,14 @@ use Rattle.std.specs.Ordering.{nat_cmp, int_cmp, is_gt, ordering_then, ordering_
 use Rattle.std.specs.declared.cmp.Ordering.{Ordering}
 use Rattle.std.specs.declared.cmp.Ordering.TheVariants.{Less, Equal, Greater}
 use Rattle.key_order.specs.declared.Coll.{Coll}
+use Rattle.key_order.specs.Totals.{folds_total}
 use Rattle.key_order.specs.Order.{AreOrderable, is_orderable, folded, folded_list, class, number_in, bytes_in, value_cmp, keys_cmp}
 use Rattle.record_core.specs.declared.values.Value.{Value}
 use Rattle.record_core.specs.declared.values.Value.TheVariants.{Null, Whole, Real8, Text, Blob}
 
--- folded values are in a total order
-pub values_total : IsTotalOrder value_cmp
-values_total = then_total (on_total class nat_cmp_total)
-    (then_total (on_total number_in int_cmp_total) (on_total bytes_in nat_list_cmp_total))
-
 -- keys are in a total order, whatever their collations
 pub keys_total : (colls : List Coll) → IsTotalOrder (keys_cmp colls)
-keys_total colls = on_total (folded_list colls) (lists_total values_total)
+keys_total colls = on_total (folded_list colls) folds_total
 
 -- a value that is no real, from its class, its number and its bytes
 value_from : ℕ → ℤ → List ℕ → Value

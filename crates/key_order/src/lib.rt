@@ -13,6 +13,10 @@ ghost use Rattle.record_core.specs.declared.values.Value.{Value};
 use record_core::{Fields, Value};
 use std::cmp::Ordering;
 
+mod folds;
+
+pub use folds::{FoldedKey, fold};
+
 #[cfg(test)]
 mod tests;
 
@@ -80,6 +84,13 @@ pub fn equal_keys_are_folded_alike()
         → folded_list colls a ≡ folded_list colls b }
     ensures equal { (colls : List Coll) (a b : List Value)
         → folded_list colls a ≡ folded_list colls b → keys_cmp colls a b ≡ Equal }
+{}
+
+/// Folded keys are in the order of the keys that were folded.
+pub fn folded_keys_keep_the_order()
+    ensures order { (colls : List Coll) (a b : List Value)
+        → slice_cmp value_cmp (folded_list colls a) (folded_list colls b) ≡ keys_cmp colls a b }
+    ensures laws { IsTotalOrder (slice_cmp value_cmp) }
 {}
 
 // Whether a text can be ordered under the collation.

@@ -137,3 +137,33 @@ fn reals_and_texts_with_a_zero_byte_may_have_no_order(rt: HostRuntime) -> Result
     assert!(rt; orderable(&Value::Null, Coll::NoCase));
     Ok(())
 }
+
+// The folded key of one value.
+fn folded(rt: &HostRuntime, value: &Value, coll: Coll) -> Result<FoldedKey, AllocError> {
+    let mut values = Vec::new(rt.alloc());
+    values.push(fold(rt.alloc(), value, coll)?)?;
+    Ok(FoldedKey::of(values))
+}
+
+#[test]
+fn folded_keys_need_no_collation(rt: HostRuntime) -> Result<(), Fail> {
+    let a = folded(&rt, &text(&rt, b"aBC\xc4\0")?, Coll::NoCase)?;
+    assert!(rt;
+        matches!(a.as_slice().first(), Some(Value::Text(t)) if t.as_slice() == b"abc\xc4\0".as_slice())
+    );
+    let b = folded(&rt, &text(&rt, b"abc ")?, Coll::Binary)?;
+    let c = folded(&rt, &text(&rt, b"abc  ")?, Coll::RTrim)?;
+    assert_eq!(rt; b.cmp(&c), Ordering::Greater);
+    assert!(rt; c == folded(&rt, &text(&rt, b"abc")?, Coll::Binary)?);
+    let real = folded(
+        &rt,
+        &Value::Real8([0x3f, 0xf8, 0, 0, 0, 0, 0, 0]),
+        Coll::Binary,
+    )?;
+    assert_eq!(rt; real.cmp(&c), Ordering::Greater);
+    assert_eq!(rt;
+        FoldedKey::of(Vec::new(rt.alloc())).cmp(&real),
+        Ordering::Less
+    );
+    Ok(())
+}

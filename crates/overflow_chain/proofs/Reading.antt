@@ -7,7 +7,7 @@ use Rattle.page_access.specs.Files.{IsWhole, file_of}
 use Rattle.page_access.specs.Outside.{KeepsSource}
 use Rattle.page_access.specs.Pages.{page_of}
 use Rattle.page_access.specs.declared.geometry.Geometry.{Geometry}
-use Rattle.page_access.proofs.Keeps.{KeepsSource-refl, KeepsSource-trans}
+use Rattle.page_access.proofs.Keeps.{Passed, passed_more, passed_none}
 use Rattle.page_lists.specs.Lists.{count, is_in, without}
 use Rattle.page_lists.specs.Table.{Table, IsPartition, Moves, is_page, moved, unused}
 use Rattle.page_lists.proofs.Counts.{length-without}
@@ -45,7 +45,7 @@ Paid reads geo src src' t t' all = IsWhole all geo → reads src' + length (unus
 -- at each page of the chain
 pub record Reading {S : Type 0} (bytes attached : S → Option (List ℕ)) (faults reads : S → ℕ) (geo : Geometry) (q need : ℕ) (src src' : S) (t t' : Table)
     (pages pages' to to' : List ℕ) (missing at : ℕ) : Type 0 where
-  pub kept : KeepsSource bytes attached faults reads src src'
+  pub kept : Passed bytes attached faults reads src src'
   pub each : IsPartition t
   pub same_pages : t.pages ≡ geo.pages
   pub lists : 7 ≤ length t.lists
@@ -57,7 +57,7 @@ pub record Reading {S : Type 0} (bytes attached : S → Option (List ℕ)) (faul
 pub reading_start : {S : Type 0} (bytes attached : S → Option (List ℕ)) (faults reads : S → ℕ) (geo : Geometry) (q need : ℕ) (src : S) (t : Table) (pages to : List ℕ)
     → IsPartition t → t.pages ≡ geo.pages → 7 ≤ length t.lists → Reading bytes attached faults reads geo q need src src t t pages pages to to need q
 reading_start bytes attached faults reads geo q need src t pages to each same lists = record {
-  kept = KeepsSource-refl bytes attached faults reads src;
+  kept = passed_none bytes attached faults reads src;
   each = each;
   same_pages = same;
   lists = lists;
@@ -92,16 +92,16 @@ pub reading_more : {S : Type 0} {bytes attached : S → Option (List ℕ)} {faul
     → (src'' : S) (t'' : Table) (pages'' to'' buffer : List ℕ) (missing' at' : ℕ)
     → Reading bytes attached faults reads geo q need src src' t t' pages pages' to to' missing at → 0 < missing → is_in at (unused t') ≡ true
     → IfSome (bytes src') (λ all. buffer ≡ page_of all geo.page_size at) → pages'' ≡ pages' ++ at ∷ [] → to'' ≡ to' ++ take missing (slice_range buffer 4 geo.usable)
-    → t'' ≡ moved at OVERFLOW_LIST t' → KeepsSource bytes attached faults reads src' src'' → IfSome (bytes src') (λ all. at * geo.page_size ≤ length all → reads src'' ≤ reads src' + 1)
+    → t'' ≡ moved at OVERFLOW_LIST t' → KeepsSource bytes attached faults reads src' src'' → faults src'' ≡ faults src' → IfSome (bytes src') (λ all. at * geo.page_size ≤ length all → reads src'' ≤ reads src' + 1)
     → at' ≡ big_number 4 buffer → missing' ≡ missing - (geo.usable - 4)
     → Reading bytes attached faults reads geo q need src src'' t t'' pages pages'' to to'' missing' at'
 reading_more {bytes = bytes} {reads = reads} {geo = geo} {q} {need} {src} {src'} {t} {t'} {pages} {pages'} {to} {to'} {missing} {at} src'' t'' pages'' to'' buffer missing' at' r some there
-    read pushed put moves kept one follow less =
+    read pushed put moves kept steady one follow less =
     let page = reading_page r there in
     let left : unused t'' ≡ without at (unused t') = ap unused moves ∙ unused-moved at OVERFLOW_LIST t' (omega arith) in
     let shorter : length (unused t'') + 1 ≡ length (unused t') = rw left (length-without at (unused t') there) in
     record {
-      kept = KeepsSource-trans r.kept kept;
+      kept = passed_more r.kept kept steady;
       each = r.each;
       same_pages = r.same_pages;
       lists = r.lists;

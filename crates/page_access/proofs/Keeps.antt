@@ -1,33 +1,10 @@
 -- What one call after another keeps, and the counts over both.
-use Rattle.std.proofs.Common.{◌≤◌, ◌∙◌, ℕ, List, Option, Result, Ok, Err, IsErrOf, refl, arith}
-use Rattle.page_access.specs.Outside.{Rose, HasCause, HasCauseOf, KeepsSource, KeepsSink}
+use Rattle.std.proofs.Common.{◌≡◌, ◌≤◌, ◌⊎◌, inl, inr, ◌∙◌, ℕ, List, Option, Bool, false, Ok, IsErrOf, refl, arith}
+use Rattle.page_access.specs.Outside.{Rose, KeepsSource, KeepsSink}
 
 -- a count that rose, and did not fall before or after
 pub Rose-longer : {f g h k : ℕ} → f ≤ g → Rose g h → h ≤ k → Rose f k
 Rose-longer before rose after = omega arith
-
--- the cause of a later call is one from an earlier moment on
-pub cause_before : {T E : Type 0} {f g h : ℕ} {r : Result T E} → f ≤ g → HasCause g h r → HasCause f h r
-cause_before {r = Ok x} before cause = record { later = omega (arith, cause.later); failed = tt }
-cause_before {r = Err e} before cause = record { later = omega (arith, cause.later); failed = Rose-longer before cause.failed (omega arith) }
-
--- the same where one of several errors is the object's
-pub cause_before_of : {T E : Type 0} {fault : E} {f g h : ℕ} {r : Result T E} → f ≤ g → HasCauseOf fault g h r → HasCauseOf fault f h r
-cause_before_of before cause = record {
-  later = omega (arith, cause.later);
-  failed = λ e. Rose-longer before (cause.failed e) (omega arith);
-}
-
--- the exit of a `?` behind a call of the object that failed
-pub cause_out : {T E T' E' : Type 0} {e : E} {r : Result T' E'} {f g h : ℕ} (fault : E') → f ≤ g → HasCause {T = T} {E = E} g h (Err e) → HasCauseOf fault f h r
-cause_out fault before cause = record {
-  later = omega (arith, cause.later);
-  failed = λ _. Rose-longer before cause.failed (omega arith);
-}
-
--- an answer that is not the object's error
-pub cause_none : {T E : Type 0} {r : Result T E} {f g : ℕ} (fault : E) → f ≤ g → (IsErrOf r fault → ⊥) → HasCauseOf fault f g r
-cause_none fault later other = record { later = later; failed = λ e. absurd (other e) }
 
 pub KeepsSource-refl : {S : Type 0} (bytes attached : S → Option (List ℕ)) (faults reads : S → ℕ) (src : S) → KeepsSource bytes attached faults reads src src
 KeepsSource-refl bytes attached faults reads src = record { told = refl; name = refl; faults_later = omega arith; reads_later = omega arith }
@@ -41,12 +18,41 @@ KeepsSource-trans first next = record {
   reads_later = omega (arith, first.reads_later, next.reads_later);
 }
 
-pub KeepsSink-refl : {R : Type 0} (created : R → Option (List ℕ)) (faults : R → ℕ) (out : R) → KeepsSink created faults out out
-KeepsSink-refl created faults out = record { name = refl; faults_later = omega arith }
+-- what calls above a source keep as long as none of its calls failed: the count of faults too
+pub record Passed {S : Type 0} (bytes attached : S → Option (List ℕ)) (faults reads : S → ℕ) (old new : S) : Type 0 where
+  pub told : bytes new ≡ bytes old
+  pub name : attached new ≡ attached old
+  pub steady : faults new ≡ faults old
+  pub reads_later : reads old ≤ reads new
 
-pub KeepsSink-trans : {R : Type 0} {created : R → Option (List ℕ)} {faults : R → ℕ} {a b c : R} →
-    KeepsSink created faults a b → KeepsSink created faults b c → KeepsSink created faults a c
-KeepsSink-trans first next = record {
+pub passed_none : {S : Type 0} (bytes attached : S → Option (List ℕ)) (faults reads : S → ℕ) (src : S) → Passed bytes attached faults reads src src
+passed_none bytes attached faults reads src = record { told = refl; name = refl; steady = refl; reads_later = omega arith }
+
+pub passed_more : {S : Type 0} {bytes attached : S → Option (List ℕ)} {faults reads : S → ℕ} {a b c : S} →
+    Passed bytes attached faults reads a b → KeepsSource bytes attached faults reads b c → faults c ≡ faults b → Passed bytes attached faults reads a c
+passed_more first next steady = record {
+  told = next.told ∙ first.told;
   name = next.name ∙ first.name;
-  faults_later = omega (arith, first.faults_later, next.faults_later);
+  steady = steady ∙ first.steady;
+  reads_later = omega (arith, first.reads_later, next.reads_later);
 }
+
+-- an answer without an error leaves the count
+pub not_failed : {T E : Type 0} {x : T} {fault : E} {P : Type 0} → (IsErrOf {T = T} (Ok x) fault ⊎ P) → P
+not_failed (inl of) = absurd cc
+not_failed (inr same) = same
+
+pub KeepsSink-refl : {R : Type 0} (created : R → Option (List ℕ)) (finished : R → Bool) (faults : R → ℕ) (out : R) → KeepsSink created finished faults out out
+KeepsSink-refl created finished faults out = record { name = refl; unfinished = inr refl; faults_later = omega arith }
+
+pub KeepsSink-trans : {R : Type 0} {created : R → Option (List ℕ)} {finished : R → Bool} {faults : R → ℕ} {a b c : R} →
+    KeepsSink created finished faults a b → KeepsSink created finished faults b c → KeepsSink created finished faults a c
+KeepsSink-trans {finished = finished} {a = a} {b = b} {c = c} first next = record {
+  name = next.name ∙ first.name;
+  unfinished = after first.unfinished next.unfinished;
+  faults_later = omega (arith, first.faults_later, next.faults_later);
+} where
+  after : (finished b ≡ false) ⊎ (finished b ≡ finished a) → (finished c ≡ false) ⊎ (finished c ≡ finished b) → (finished c ≡ false) ⊎ (finished c ≡ finished a)
+  after before (inl put) = inl put
+  after (inl put) (inr same) = inl (same ∙ put)
+  after (inr was) (inr same) = inr (same ∙ was)

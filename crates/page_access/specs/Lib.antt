@@ -1,3 +1,5 @@
+pub mod Cache
+pub mod CacheStored
 pub mod Files
 pub mod Memory
 pub mod Outside

@@ -40,6 +40,18 @@ pub record SureState : Type 0 where
 abbrev pub sure_source : List ℕ → SureState
 sure_source bytes = record { bytes = bytes; name = None; reads = 0 }
 
+-- a source of these bytes of which a read of more than `widest` bytes fails, and no other call
+pub record NarrowState : Type 0 where
+  pub bytes : List ℕ
+  pub widest : ℕ
+  pub name : Option (List ℕ)
+  pub reads : ℕ
+  pub faults : ℕ
+
+-- such a source that has not been called
+abbrev pub narrow_source : List ℕ → ℕ → NarrowState
+narrow_source bytes widest = record { bytes = bytes; widest = widest; name = None; reads = 0; faults = 0 }
+
 -- zeros but for the pages, each with its number from 1, of a source of this length
 pub record SparseState : Type 0 where
   pub len : ℕ

@@ -1,20 +1,22 @@
 -- What the calls of a source and of a sink do (docs/FORMAT.md, "The outside").
 -- A source or a sink may tell its bytes: `Some` of them, or `None`. It counts its faults.
-use Rattle.std.specs.Prelude.{◌≡◌, ℕ, ◌+◌, ◌-◌, ◌^◌, ◌≤◌, min, List, ◌++◌, length, take, drop, Option, Some, None, Result, OnOk, OnErr, IsErrOf}
+use Rattle.std.specs.Prelude.{◌≡◌, ◌⊎◌, ℕ, ◌+◌, ◌-◌, ◌^◌, ◌≤◌, min, List, ◌++◌, length, take, drop, Option, Some, None, Bool, false, Result, OnOk, OnErr, IsErrOf}
 
--- a count rose from one moment to another, or stands at its last value
+-- a count rose from one moment to another, or stands at 2^64 - 1, above which it does not go
 abbrev pub Rose : ℕ → ℕ → Type 0
 Rose before now = min (before + 1) (2 ^ 64 - 1) ≤ now
 
--- the count of faults does not fall, and an error comes only where it rose
+-- an error comes only where the count of faults rose, and without one the count is as before
 pub record HasCause {T E : Type 0} (before now : ℕ) (result : Result T E) : Type 0 where
   pub later : before ≤ now
   pub failed : OnErr result (Rose before now)
+  pub steady : OnOk result (now ≡ before)
 
--- the same where one of several errors is the object's
+-- the same where one of several errors is the object's: with any other answer the count is as before
 pub record HasCauseOf {T E : Type 0} (fault : E) (before now : ℕ) (result : Result T E) : Type 0 where
   pub later : before ≤ now
   pub failed : IsErrOf result fault → Rose before now
+  pub steady : IsErrOf result fault ⊎ (now ≡ before)
 
 -- a count rises by at most one
 pub record OneMore (before now : ℕ) : Type 0 where
@@ -28,9 +30,10 @@ pub record KeepsSource {S : Type 0} (bytes attached : S → Option (List ℕ)) (
   pub faults_later : faults old ≤ faults new
   pub reads_later : reads old ≤ reads new
 
--- what each call that puts bytes into a sink keeps
-pub record KeepsSink {R : Type 0} (created : R → Option (List ℕ)) (faults : R → ℕ) (old new : R) : Type 0 where
+-- what each call that puts bytes into a sink keeps: the name, and that it is not finished by it
+pub record KeepsSink {R : Type 0} (created : R → Option (List ℕ)) (finished : R → Bool) (faults : R → ℕ) (old new : R) : Type 0 where
   pub name : created new ≡ created old
+  pub unfinished : (finished new ≡ false) ⊎ (finished new ≡ finished old)
   pub faults_later : faults old ≤ faults new
 
 -- `count` bytes were read to the front of `to`: all that stand from `at` on, as far as there is room
@@ -53,6 +56,7 @@ pub record Writes {T E : Type 0} (old new : Option (List ℕ)) (before now : ℕ
   pub ok : OnOk result (Gains old new text)
   pub err : OnErr result (GainsPrefix old new text)
   pub failed : OnErr result (Rose before now)
+  pub steady : OnOk result (now ≡ before)
 
 -- the same where one of several errors is the sink's
 pub record WritesOf {T E : Type 0} (fault : E) (old new : Option (List ℕ)) (before now : ℕ) (text : List ℕ) (result : Result T E) : Type 0 where
@@ -60,3 +64,4 @@ pub record WritesOf {T E : Type 0} (fault : E) (old new : Option (List ℕ)) (be
   pub ok : OnOk result (Gains old new text)
   pub err : OnErr result (GainsPrefix old new text)
   pub failed : IsErrOf result fault → Rose before now
+  pub steady : IsErrOf result fault ⊎ (now ≡ before)

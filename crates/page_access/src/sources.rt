@@ -216,7 +216,7 @@ pub fn counted(n: u64) -> u64
 }
 
 // Copies the bytes from `at` on, as far as there is room, and gives how many.
-fn copy_at(bytes: &[u8], at: u64, to: &mut [u8]) -> usize
+pub fn copy_at(bytes: &[u8], at: u64, to: &mut [u8]) -> usize
     ensures { ReadsAt bytes.now at result to.new }
 {
     let at = at as usize;

@@ -114,3 +114,36 @@ fn a_sure_sink_fails_at_its_room_alone(rt: HostRuntime) -> Result<(), Fail> {
 fn errors_become_read_faults(rt: HostRuntime) {
     assert_eq!(rt; ReadFault::from(Failed), ReadFault::Source);
 }
+
+#[test]
+fn a_source_that_gives_few_bytes_a_call_gives_a_whole_page_all_the_same(
+    rt: HostRuntime,
+) -> Result<(), Fail> {
+    let alloc = rt.alloc();
+    let geo = Geometry {
+        page_size: 512,
+        usable: 512,
+        pages: 1,
+    };
+    let mut bytes = [3; 500].to_vec(alloc)?;
+    bytes.extend_from_slice(&[4; 12])?;
+    for step in [1, 7, 511, 512, 1000] {
+        let mut src = SlowSource::new(bytes.clone()?, step);
+        let mut to = [1; 512];
+        assert_eq!(rt; load(&mut src, &geo, 1, &mut to), Ok(()));
+        assert_eq!(rt; to.as_slice(), bytes.as_slice());
+    }
+    Ok(())
+}
+
+#[test]
+fn a_read_that_is_too_wide_fails_and_is_counted(rt: HostRuntime) -> Result<(), Fail> {
+    let alloc = rt.alloc();
+    let mut src = NarrowSource::new([1, 2, 3].to_vec(alloc)?, 2);
+    assert_eq!(rt; src.read_at(0, &mut [0; 3]), Err(Failed));
+    let mut to = [0; 2];
+    assert_eq!(rt; src.read_at(1, &mut to), Ok(2));
+    assert_eq!(rt; to, [2, 3]);
+    assert_eq!(rt; src.length(), Ok(3));
+    Ok(())
+}

@@ -142,3 +142,17 @@ firsts_part unused (p ∷ qs) q =
 -- each number is taken once at most, and where it was unused at least once
 pub count-firsts : (q : ℕ) (unused qs : List ℕ) → count q (firsts unused qs) + count q (minus unused (firsts unused qs)) ≡ count q unused
 count-firsts q unused qs = omega (arith, count-minus q unused (firsts unused qs) (firsts_part unused qs))
+
+-- first occurrences in a list and in one behind it
+pub firsts-append : (unused qs rest : List ℕ)
+    → firsts unused (qs ++ rest) ≡ firsts unused qs ++ firsts (minus unused (firsts unused qs)) rest
+firsts-append unused [] rest = refl
+firsts-append unused (q ∷ qs) rest =
+    elim (in_or_not q unused) [
+      | inl w ↦ rw w.0 (ap (λ (xs : List ℕ). q ∷ xs) (firsts-append (without q unused) qs rest))
+      | inr w ↦ rw w.0 (firsts-append unused qs rest)
+    ]
+
+pub firsts_none : (qs : List ℕ) → firsts [] qs ≡ []
+firsts_none [] = refl
+firsts_none (q ∷ qs) = firsts_none qs

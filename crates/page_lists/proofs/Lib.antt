@@ -1,4 +1,9 @@
 pub mod Counts
+pub mod Joins
 pub mod Moves
-pub mod Vectors
+pub mod Outs
+pub mod Puts
+pub mod Rows
+pub mod Spelled
+pub mod Steps
 pub mod Uses

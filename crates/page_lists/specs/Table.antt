@@ -1,5 +1,5 @@
 -- A table of page lists, which hold each page once (docs/ARCHITECTURE.md, "Page lists").
-use Rattle.std.specs.Prelude.{◌≡◌, ℕ, suc, nat_le, Bool, ◌&&◌, if◌then◌else◌, List, [], ◌∷◌, ◌++◌, length, map, slice_set, slice_index_or, replicate}
+use Rattle.std.specs.Prelude.{◌≡◌, ℕ, suc, nat_le, Bool, ◌&&◌, if◌then◌else◌, List, [], ◌∷◌, ◌++◌, length, map, slice_set, slice_index_or, replicate, take}
 use Rattle.std.specs.List.{concat, range_with_len}
 use Rattle.page_lists.specs.Lists.{IsPartOf, is_in, count, without}
 
@@ -53,3 +53,7 @@ pub record Moves (l : ℕ) (old new : Table) : Type 0 where
   pub all : new ≡ all_moved taken l old
   pub same_pages : new.pages ≡ old.pages
   pub same_lists : length new.lists ≡ length old.lists
+
+-- `new` is `old` after the first of these pages, however many, one after another became the last of list l
+abbrev pub MovesFront : List ℕ → ℕ → Table → Table → Type 0
+MovesFront pages l old new = (n : ℕ) × (new ≡ all_moved (take n pages) l old)

@@ -3,12 +3,14 @@
 //! List 0 holds the pages that have no use yet.
 #![tactic(auto)]
 
-ghost use Rattle.std.specs.Prelude.{◌≡◌, ℕ, ◌+◌, ◌-◌, ◌^◌, ◌<◌, ◌≤◌, ◌==◌, List, [], ◌∷◌, ◌++◌, All, IfOk, length, map, position, replicate, slice_get};
-ghost use Rattle.std.specs.List.{range_with_len};
-ghost use Rattle.std.specs.Vec.{vec_capacity, vec_len};
-ghost use Rattle.page_lists.specs.Lists.{after, without};
-ghost use Rattle.page_lists.specs.Table.{IsPartition, fresh, list_at, moved, owner};
+ghost use Rattle.std.specs.Prelude.{◌≡◌, ◌-◌, ◌^◌, ◌<◌, ◌≤◌, IfOk, IsTrue, length, slice_get};
+ghost use Rattle.page_lists.specs.Lists.{after, is_in};
+ghost use Rattle.page_lists.specs.Rings.{some_page};
+ghost use Rattle.page_lists.specs.Table.{IsPartition, fresh, list_at, moved, owner, unused};
 
+mod rings;
+
+use rings::Rings;
 use std::alloc::{AllocError, Global};
 use std::marker::Model;
 
@@ -16,9 +18,7 @@ use std::marker::Model;
 #[derive(Drop)]
 pub struct PageTable {
     pages: u32,
-    /// The list of each page; the number at 0 means nothing.
-    owners: Vec<u8>,
-    lists: Vec<Vec<u32>>,
+    rings: Rings,
 }
 
 impl Model for PageTable {
@@ -42,17 +42,8 @@ impl PageTable {
         ensures value { IfOk result (λ t. t ≡ fresh pages (lists - 1)) }
         ensures partition { IfOk result (λ t. IsPartition t) }
     {
-        let owners = vec![in alloc; 0u8; pages as usize + 1]?;
-        let mut all = Vec::with_capacity(alloc, lists as usize)?;
-        all.push(rising(alloc, pages)?)?;
-        for _made in 1..lists {
-            all.push(Vec::with_capacity(alloc, pages as usize)?)?;
-        }
-        Ok(PageTable {
-            pages,
-            owners,
-            lists: all,
-        })
+        let rings = Rings::new(alloc, pages, lists)?;
+        Ok(PageTable { pages, rings })
     }
 
     /// The number of pages.
@@ -70,7 +61,22 @@ impl PageTable {
         ensures value { result ≡ owner page self.now.lists }
         ensures partition { IsPartition self.now }
     {
-        self.owners[page as usize] as u32
+        self.rings.link(page).list
+    }
+
+    /// Whether the number is that of an unused page: one of 1 to n that is in list 0.
+    pub fn is_unused(&self, page: u32) -> bool
+        ensures value { result ≡ is_in page (unused self.now) }
+        ensures low { IsTrue result → 1 ≤ page }
+        ensures high { IsTrue result → page ≤ self.now.pages }
+    {
+        if page > self.pages {
+            return false;
+        }
+        if page == 0 {
+            return false;
+        }
+        self.list_of(page) == 0
     }
 
     /// Takes the page out of its list and makes it the last of `list`. All else stays in order.
@@ -81,10 +87,8 @@ impl PageTable {
         ensures value { self.new ≡ moved page list self.old }
         ensures partition { IsPartition self.new }
     {
-        let from = self.owners[page as usize];
-        take_out(&mut self.lists[from as usize], page);
-        put_last(&mut self.lists[list as usize], page);
-        self.owners[page as usize] = list as u8;
+        self.rings.take_out(page);
+        self.rings.put_last(page, list);
     }
 
     /// The first page of the list, or `None` where the list is empty.
@@ -92,7 +96,7 @@ impl PageTable {
         requires { list < length self.now.lists }
         ensures { result ≡ slice_get (list_at list self.now.lists) 0 }
     {
-        self.lists[list as usize].first().copied()
+        page_or_none(self.rings.ends(list).first)
     }
 
     /// The page after this one in its list, or `None` where it is the last.
@@ -101,8 +105,7 @@ impl PageTable {
         requires high { page ≤ self.now.pages }
         ensures { result ≡ after page (list_at (owner page self.now.lists) self.now.lists) }
     {
-        let list = self.owners[page as usize];
-        page_after(&self.lists[list as usize], page)
+        page_or_none(self.rings.link(page).after)
     }
 
     /// The number of pages of the list.
@@ -110,52 +113,15 @@ impl PageTable {
         requires { list < length self.now.lists }
         ensures { result ≡ length (list_at list self.now.lists) }
     {
-        self.lists[list as usize].len() as u32
+        self.rings.ends(list).len
     }
 }
 
-// The pages 1 to `pages`.
-fn rising(alloc: Global, pages: u32) -> Result<Vec<u32>, AllocError>
-    requires { pages < 2 ^ 32 - 1 }
-    ensures items { IfOk result (λ v. v.items ≡ range_with_len 1 pages) }
-    ensures room { IfOk result (λ v. pages ≤ vec_capacity v) }
+// The page, where its number is not 0.
+fn page_or_none(page: u32) -> Option<u32>
+    ensures { result ≡ some_page page }
 {
-    let mut all = Vec::with_capacity(alloc, pages as usize)?;
-    for page in 0..pages {
-        all.push(page + 1)?;
-    }
-    Ok(all)
-}
-
-// Where the page stands in the list.
-fn place_of(list: &[u32], page: u32) -> Option<usize>
-    ensures { result ≡ position (λ p. p == page) list.now }
-{
-    list.iter().position(|p| *p == page)
-}
-
-fn page_after(list: &[u32], page: u32) -> Option<u32>
-    ensures { result ≡ after page list.now }
-{
-    let place = place_of(list, page)?;
-    list.get(place + 1).copied()
-}
-
-fn take_out(list: &mut Vec<u32>, page: u32)
-    ensures items { list.new.items ≡ without page list.old.items }
-    ensures room { vec_capacity list.new ≡ vec_capacity list.old }
-{
-    if let Some(place) = place_of(list, page) {
-        list.remove(place);
-    }
-}
-
-fn put_last(list: &mut Vec<u32>, page: u32)
-    requires { vec_len list.old < vec_capacity list.old }
-    ensures items { list.new.items ≡ list.old.items ++ page ∷ [] }
-    ensures room { vec_capacity list.old ≤ vec_capacity list.new }
-{
-    list.push(page).unwrap();
+    if page == 0 { None } else { Some(page) }
 }
 
 #[cfg(test)]

@@ -8,7 +8,7 @@ use Rattle.page_access.specs.declared.geometry.Geometry.{Geometry}
 use Rattle.page_access.specs.Files.{IsWhole, file_of}
 use Rattle.page_access.specs.Outside.{KeepsSource}
 use Rattle.page_access.specs.Pages.{File}
-use Rattle.page_access.proofs.Keeps.{KeepsSource-refl, KeepsSource-trans}
+use Rattle.page_access.proofs.Keeps.{Passed, passed_more, passed_none}
 use Rattle.page_lists.specs.Lists.{minus}
 use Rattle.page_lists.specs.Table.{Table, Moves, all_moved, unused}
 use Rattle.page_lists.proofs.Uses.{unused-all_moved, all_moved-append, Moves-none, Moves-append}
@@ -38,7 +38,7 @@ to_come all geo bytes shape page i marks unused =
 -- what a loop over the cells of a page keeps
 pub record Going {S : Type 0} (told attached : S → Option (List ℕ)) (faults reads : S → ℕ) (geo : Geometry) (bytes : List ℕ)
     (shape : PageShape) (page : ℕ) (src0 src : S) (old new : Table) (before now : List CellOutcome) (i : ℕ) (marks : List Bool) : Type 0 where
-  pub kept : KeepsSource told attached faults reads src0 src
+  pub kept : Passed told attached faults reads src0 src
   pub read : ReadsEach (told src0) geo old new (reads src0) (reads src) 0
   pub moves : Moves OVERFLOW_LIST old new
   pub len : length marks ≡ geo.usable
@@ -105,7 +105,7 @@ going_start told attached faults reads geo bytes shape page src t before marks f
     ∙ ap (λ (ms : List Bool). marked_from (cell_of bytes geo.usable geo.pages shape) shape.cells 0 ms) fresh
     ∙ page_marked bytes geo.usable geo.pages shape in
     record {
-      kept = KeepsSource-refl told attached faults reads src;
+      kept = passed_none told attached faults reads src;
       read = always_told (λ all. IsWhole all geo → reads src + length (unused t) ≤ reads src + length (unused t) + 0) (told src) (λ all whole. omega arith);
       moves = Moves-none OVERFLOW_LIST t;
       len = ap length fresh ∙ length-replicate geo.usable false;
@@ -129,11 +129,11 @@ pub going_more : {S : Type 0} {told attached : S → Option (List ℕ)} {faults 
     ≡ outcome_at (file_of all geo) bytes page (has_payload shape.kind shape.leaf) i cell (unused new))
     → new' ≡ all_moved (chains_of (map outcome_of (option_to_list o))) OVERFLOW_LIST new
     → IfSome o (λ x. IsSmall geo.usable geo.pages page (outcome_of x))
-    → KeepsSource told attached faults reads src src' → Moves OVERFLOW_LIST new new'
+    → KeepsSource told attached faults reads src src' → faults src' ≡ faults src → Moves OVERFLOW_LIST new new'
     → ReadsEach (told src) geo new new' (reads src) (reads src') 0 → next ≡ now ++ option_to_list o
     → Going told attached faults reads geo bytes shape page src0 src' old new' before next (i + 1) after
 going_more {told = told} {reads = reads} {geo = geo} {bytes} {shape} {page} {src0} {src} {old} {new} {before} {now} {i} {marks}
-    src' new' next after cell o was lt named marked len value moved small kept moves read pushed =
+    src' new' next after cell o was lt named marked len value moved small kept steady moves read pushed =
     let joined : chains_of (map outcome_of (was.more ++ option_to_list o))
     ≡ chains_of (map outcome_of was.more) ++ chains_of (map outcome_of (option_to_list o)) =
     ap chains_of (map-append outcome_of was.more (option_to_list o))
@@ -143,7 +143,7 @@ going_more {told = told} {reads = reads} {geo = geo} {bytes} {shape} {page} {src
     let left : unused new' ≡ minus (unused new) (chains_of (map outcome_of (option_to_list o))) =
     ap unused moved ∙ unused-all_moved (chains_of (map outcome_of (option_to_list o))) OVERFLOW_LIST new (omega arith) in
     record {
-      kept = KeepsSource-trans was.kept kept;
+      kept = passed_more was.kept kept steady;
       read = both_told (λ all. IsWhole all geo → reads src + length (unused new) ≤ reads src0 + length (unused old) + 0)
           (λ all. IsWhole all geo → reads src' + length (unused new') ≤ reads src + length (unused new) + 0)
           (λ all. IsWhole all geo → reads src' + length (unused new') ≤ reads src0 + length (unused old) + 0)

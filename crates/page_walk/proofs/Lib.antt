@@ -1,8 +1,10 @@
 pub mod Found
 pub mod Going
+pub mod InTurn
 pub mod Levels
 pub mod Names
 pub mod Queue
+pub mod Recent
 pub mod Small
 pub mod Sorting
 pub mod Surveying

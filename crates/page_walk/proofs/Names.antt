@@ -11,7 +11,7 @@ use Rattle.cell_reader.specs.declared.cells.CellView.{CellView}
 use Rattle.cell_reader.specs.declared.cells.CellFault.{CellFault}
 use Rattle.cell_reader.specs.Cell.{cell_of}
 use Rattle.cell_reader.specs.Cover.{marked_from, marked_on, marks_with}
-use Rattle.cell_reader.specs.Screen.{Verdict, Kept, Faulty, Overlaps, kept_from, verdicts, pointers_in}
+use Rattle.cell_reader.specs.Screen.{Verdict, Accepts, Faulty, Overlaps, accepted_from, verdicts, pointers_in}
 use Rattle.cell_reader.specs.Shape.{right_of, shape_of, u32_at}
 use Rattle.cell_reader.proofs.Ranges.{page_marked}
 use Rattle.page_walk.specs.Page.{screened_as, shape_on}
@@ -24,14 +24,14 @@ pub record Naming (page : List ℕ) (usable pages : ℕ) (shape : PageShape) (be
   pub few : length now ≤ length before + i
   pub len : length marks ≡ usable
 
-kept_children : (i : ℕ) (vs : List Verdict) → flat_map (λ c. option_to_list c.1.child) (kept_from i vs) ≡ children_by vs
-kept_children i [] = refl
-kept_children i (Kept v ∷ vs) = ap (λ rest. option_to_list v.child ++ rest) (kept_children (i + 1) vs)
-kept_children i (Faulty fault ∷ vs) = kept_children (i + 1) vs
-kept_children i (Overlaps ∷ vs) = kept_children (i + 1) vs
+accepted_children : (i : ℕ) (vs : List Verdict) → flat_map (λ c. option_to_list c.1.child) (accepted_from i vs) ≡ children_by vs
+accepted_children i [] = refl
+accepted_children i (Accepts v ∷ vs) = ap (λ rest. option_to_list v.child ++ rest) (accepted_children (i + 1) vs)
+accepted_children i (Faulty fault ∷ vs) = accepted_children (i + 1) vs
+accepted_children i (Overlaps ∷ vs) = accepted_children (i + 1) vs
 
 children_step : (v : Verdict) (vs : List Verdict) → children_by (v ∷ vs) ≡ option_to_list (child_by (screened_as v)) ++ children_by vs
-children_step (Kept v) vs = refl
+children_step (Accepts v) vs = refl
 children_step (Faulty fault) vs = refl
 children_step Overlaps vs = refl
 
@@ -55,7 +55,7 @@ naming_start page usable pages shape before marks fresh = let all : shape.cells 
   rest = ap (λ n. before ++ children_by (marked_from (cell_of page usable pages shape) n 0 marks)) all
       ∙ ap (λ ms. before ++ children_by (marked_from (cell_of page usable pages shape) shape.cells 0 ms)) fresh
       ∙ ap (λ vs. before ++ children_by vs) (page_marked page usable pages shape)
-      ∙ ap (λ xs. before ++ xs) (sym (kept_children 0 (verdicts page usable pages shape)));
+      ∙ ap (λ xs. before ++ xs) (sym (accepted_children 0 (verdicts page usable pages shape)));
   few = omega arith;
   len = ap length fresh ∙ length-replicate usable false;
 }

@@ -2,7 +2,7 @@
 use Rattle.std.proofs.Common.{◌≡◌, ℕ, zero, suc, ◌+◌, ◌≤◌, true, List, [], ◌∷◌, ◌++◌, length, refl, sym, ap, ◌∙◌, inl, inr, arith, append_assoc, append-nil, length-append}
 use Rattle.std.specs.List.{flat_map}
 use Rattle.page_lists.specs.Lists.{IsPartOf, is_in, firsts, minus, without}
-use Rattle.page_lists.proofs.Counts.{in_or_not, minus-append, length-minus, length-without, firsts_part}
+use Rattle.page_lists.proofs.Counts.{in_or_not, minus-append, length-minus, length-without, firsts_part, firsts-append, firsts_none}
 use Rattle.page_walk.specs.Walk.{levels, levels_from}
 
 -- the pages still to come, where the pages of `waiting` are found and their children are not looked at yet
@@ -28,20 +28,6 @@ rest_step below unused p ps =
     let one : length unused + length (p ∷ ps) ≡ suc (length (minus unused found) + length (ps ++ found)) =
     omega (arith, length-minus unused found (firsts_part unused (below p)), length-append ps found) in
     ap (λ n. queue below n unused (p ∷ ps)) one
-
--- first occurrences in a list and in one behind it
-pub firsts-append : (unused qs rest : List ℕ)
-    → firsts unused (qs ++ rest) ≡ firsts unused qs ++ firsts (minus unused (firsts unused qs)) rest
-firsts-append unused [] rest = refl
-firsts-append unused (q ∷ qs) rest =
-    elim (in_or_not q unused) [
-      | inl w ↦ rw w.0 (ap (λ (xs : List ℕ). q ∷ xs) (firsts-append (without q unused) qs rest))
-      | inr w ↦ rw w.0 (firsts-append unused qs rest)
-    ]
-
-pub firsts_none : (qs : List ℕ) → firsts [] qs ≡ []
-firsts_none [] = refl
-firsts_none (q ∷ qs) = firsts_none qs
 
 -- the pages of a level are next, and then the unused children of all of them wait
 rest_level : (below : ℕ → List ℕ) (ps waiting unused : List ℕ)

@@ -7,10 +7,10 @@ use Rattle.std.proofs.lemmas.List.Sums.{sum_by-cons}
 use Rattle.page_lists.specs.Table.{Table}
 use Rattle.record_core.specs.declared.faults.RecordFault.{RecordFault}
 use Rattle.record_core.specs.declared.values.Value.{Value}
-use Rattle.record_core.specs.Record.{Header, body_len, value_of, values_of, bodies_len, header_at, checked, and_then, is_reserved, record_of, values_at}
+use Rattle.record_core.specs.Record.{Header, body_len, value_len, value_of, values_of, bodies_len, header_at, checked, and_then, is_reserved, record_of, values_at}
 use Rattle.cell_reader.specs.Inside.{HasOverflow}
 use Rattle.overflow_chain.specs.Turn.{Takes}
-use Rattle.page_walk.specs.Bounds.{ArePages, IsSmall, value_len}
+use Rattle.page_walk.specs.Bounds.{ArePages, IsSmall}
 use Rattle.page_walk.specs.Cells.{Outcome, read_as}
 
 either : (b : Bool) → (b ≡ true) ⊎ (b ≡ false)

@@ -57,7 +57,7 @@ one_sorted all before now notes (outcomes.Taken t) rest len less was l = record 
   small = omega (arith, was.small);
   same = omega (arith, was.same, l);
 }
-one_sorted all before now notes (outcomes.Unread cell cause chain) rest len less was l = record {
+one_sorted all before now notes (outcomes.Unread cell rowid cause chain) rest len less was l = record {
   done = was.done;
   is = append-nil now ∙ was.is;
   parts = was.parts;
@@ -100,19 +100,19 @@ sorting_front all before now notes left len was = record { front = was.done; res
 pub rows_seen : (os : List CellOutcome) → map row_of (taken_in os) ≡ rows_of (map outcome_of os)
 rows_seen [] = refl
 rows_seen (outcomes.Taken t ∷ os) = ap (λ (rs : List Row). row_of t ∷ rs) (rows_seen os)
-rows_seen (outcomes.Unread cell cause chain ∷ os) = rows_seen os
+rows_seen (outcomes.Unread cell rowid cause chain ∷ os) = rows_seen os
 
 few_taken : (os : List CellOutcome) → length (taken_in os) ≤ length os
 few_taken [] = omega arith
 few_taken (outcomes.Taken t ∷ os) = omega (arith, few_taken os)
-few_taken (outcomes.Unread cell cause chain ∷ os) = omega (arith, few_taken os)
+few_taken (outcomes.Unread cell rowid cause chain ∷ os) = omega (arith, few_taken os)
 
 small_taken : (usable pages page : ℕ) (os : List CellOutcome)
     → AllByRecursion (λ o. IsSmall usable pages page (outcome_of o)) os
     → AllByRecursion (λ t. IsSmallRow usable pages page (row_of t)) (taken_in os)
 small_taken usable pages page [] h = tt
 small_taken usable pages page (outcomes.Taken t ∷ os) h = (h.0, small_taken usable pages page os h.1)
-small_taken usable pages page (outcomes.Unread cell cause chain ∷ os) h = small_taken usable pages page os h.1
+small_taken usable pages page (outcomes.Unread cell rowid cause chain ∷ os) h = small_taken usable pages page os h.1
 
 all_front : {X : Type 0} (P : X → Type 0) (xs ys : List X) → AllByRecursion P (xs ++ ys) → AllByRecursion P xs
 all_front P [] ys h = tt

@@ -8,7 +8,7 @@ use Rattle.page_access.specs.declared.geometry.Geometry.{Geometry}
 use Rattle.page_access.specs.Files.{IsWhole, file_of}
 use Rattle.page_access.specs.Outside.{KeepsSource}
 use Rattle.page_access.specs.Pages.{page_of}
-use Rattle.page_access.proofs.Keeps.{KeepsSource-trans}
+use Rattle.page_access.proofs.Keeps.{Passed, passed_more}
 use Rattle.cell_reader.specs.declared.shapes.Kind.{Kind}
 use Rattle.cell_reader.specs.declared.shapes.PageShape.{PageShape}
 use Rattle.cell_reader.specs.Shape.{shape_of}
@@ -18,7 +18,7 @@ use Rattle.page_walk.proofs.Going.{both_told, one_told}
 -- what the loop keeps: the kinds of the first i pages are noted, with one read for each
 pub record Surveying {S : Type 0} (told attached : S → Option (List ℕ)) (faults reads : S → ℕ) (geo : Geometry)
     (src0 src : S) (kinds : List (Option Kind)) (i : ℕ) : Type 0 where
-  pub kept : KeepsSource told attached faults reads src0 src
+  pub kept : Passed told attached faults reads src0 src
   pub len : length kinds ≡ i
   pub read : IfSome (told src0) (λ all. IsWhole all geo → reads src ≤ reads src0 + i)
   pub noted : IfSome (told src0) (λ all. kinds ≡ map (kind_on (file_of all geo)) (range_with_len 1 i))
@@ -28,19 +28,18 @@ pub surveying_more : {S : Type 0} {told attached : S → Option (List ℕ)} {fau
     {src0 src : S} {kinds : List (Option Kind)} {i : ℕ} (src' : S) (buffer : List ℕ) (kind : Option Kind) (kinds' : List (Option Kind))
     → Surveying told attached faults reads geo src0 src kinds i → i < geo.pages
     → IfSome (told src) (λ all. buffer ≡ page_of all geo.page_size (i + 1))
-    → KeepsSource told attached faults reads src src'
-    → IfSome (told src) (λ all. (i + 1) * geo.page_size ≤ length all → reads src' ≤ reads src + 1)
+    → KeepsSource told attached faults reads src src' → faults src' ≡ faults src
+    → IfSome (told src) (λ all. IsWhole all geo → reads src' ≤ reads src + 1)
     → kind ≡ option_map (λ (s : PageShape). s.kind) (shape_of buffer (i + 1) geo.usable) → kinds' ≡ kinds ++ kind ∷ []
     → Surveying told attached faults reads geo src0 src' kinds' (i + 1)
-surveying_more {told = told} {reads = reads} {geo = geo} {src0} {src} {kinds} {i} src' buffer kind kinds' was lt page kept read is pushed =
-    let last : i + 1 ≤ geo.pages = omega arith in
+surveying_more {told = told} {reads = reads} {geo = geo} {src0} {src} {kinds} {i} src' buffer kind kinds' was lt page kept steady read is pushed =
     record {
-      kept = KeepsSource-trans was.kept kept;
+      kept = passed_more was.kept kept steady;
       len = omega (arith, ap length pushed, length-append kinds (kind ∷ []), was.len);
       read = both_told (λ all. IsWhole all geo → reads src ≤ reads src0 + i)
-          (λ all. (i + 1) * geo.page_size ≤ length all → reads src' ≤ reads src + 1)
+          (λ all. IsWhole all geo → reads src' ≤ reads src + 1)
           (λ all. IsWhole all geo → reads src' ≤ reads src0 + (i + 1)) (told src0) (told src) was.kept.told
-          (λ all p q whole. omega (arith, p whole, q (omega (arith, whole, mul-le-mul_right geo.page_size last)))) was.read read;
+          (λ all p q whole. omega (arith, p whole, q whole)) was.read read;
       noted = both_told (λ all. kinds ≡ map (kind_on (file_of all geo)) (range_with_len 1 i))
           (λ all. buffer ≡ page_of all geo.page_size (i + 1))
           (λ all. kinds' ≡ map (kind_on (file_of all geo)) (range_with_len 1 (i + 1))) (told src0) (told src) was.kept.told

@@ -10,7 +10,7 @@ use Rattle.page_lists.proofs.Uses.{all_moved-append, pages-all_moved, unused-all
 use Rattle.cell_reader.specs.declared.shapes.Kind.{Kind}
 use Rattle.page_walk.specs.Bounds.{ArePages}
 use Rattle.page_walk.specs.Taking.{Took, is_of_kind, takes}
-use Rattle.page_walk.proofs.Queue.{firsts-append}
+use Rattle.page_lists.proofs.Counts.{firsts-append}
 
 -- unused pages are pages of the file
 pub part_are_pages : (ps : List ℕ) (pages : ℕ) (t : Table) → IsPartition t → t.pages ≡ pages → IsPartOf ps (unused t)

@@ -6,7 +6,7 @@ use Rattle.std.specs.Prelude.{ℤ, option_to_list, IfSome, MatchOption}
 use Rattle.page_access.specs.declared.geometry.Geometry.{Geometry}
 use Rattle.page_access.specs.Files.{IsWhole, file_of}
 use Rattle.page_access.specs.Outside.{KeepsSource}
-use Rattle.page_access.proofs.Keeps.{KeepsSource-refl, KeepsSource-trans}
+use Rattle.page_access.proofs.Keeps.{Passed, passed_more, passed_none}
 use Rattle.page_lists.specs.Lists.{IsPartOf, firsts, is_in, minus}
 use Rattle.page_lists.specs.Table.{Table, IsPartition, Moves, all_moved, unused}
 use Rattle.page_lists.proofs.Counts.{in_head, in_part, length-minus, part_append}
@@ -26,7 +26,7 @@ use Rattle.page_walk.proofs.Witness.{unused_once}
 -- what the loop keeps: the pages found have moved, and there was one read for each that had its turn
 pub record Walking {S : Type 0} (told attached : S → Option (List ℕ)) (faults reads : S → ℕ) (geo : Geometry) (kind : Kind)
     (root : ℤ) (l : ℕ) (src0 src : S) (old new : Table) (found : List ℕ) (at : ℕ) : Type 0 where
-  pub kept : KeepsSource told attached faults reads src0 src
+  pub kept : Passed told attached faults reads src0 src
   pub part : IsPartOf found (unused old)
   pub table : new ≡ all_moved found l old
   pub left : unused new ≡ minus (unused old) found
@@ -88,7 +88,7 @@ walking_start told attached faults reads geo kind root l src ks old new none nam
     let is : takes ks kind old named ≡ found = sym (took.found ∙ ap (λ (xs : List ℕ). xs ++ takes ks kind old named) empty) in
     let table : new ≡ all_moved found l old = took.table ∙ ap (λ (ps : List ℕ). all_moved ps l old) is in
     record {
-      kept = KeepsSource-refl told attached faults reads src;
+      kept = passed_none told attached faults reads src;
       part = subst (λ (ps : List ℕ). IsPartOf ps (unused old)) is (takes_part ks kind old named);
       table = table;
       left = ap unused table ∙ unused-all_moved found l old least;
@@ -120,12 +120,12 @@ pub walking_more : {S : Type 0} {told attached : S → Option (List ℕ)} {fault
     → 1 ≤ l → old.pages ≡ geo.pages → IfSome (told src0) (λ all. ks ≡ kinds_of (file_of all geo))
     → at < length found → p ≡ get_or found at p → none ≡ []
     → IfSome (told src) (λ all. named ≡ none ++ pointers_on (file_of all geo) p)
-    → KeepsSource told attached faults reads src src'
+    → KeepsSource told attached faults reads src src' → faults src' ≡ faults src
     → IfSome (told src) (λ all. IsWhole all geo → reads src' ≤ reads src + 1)
     → Took l (takes ks kind new named) new new' found found'
     → Walking told attached faults reads geo kind root l src0 src' old new' found' (at + 1)
 walking_more {told = told} {reads = reads} {geo = geo} {kind} {root} {l} {src0} {src} {old} {new} {found} {at} src' ks new' none named found' p
-    was least same surveyed lt here empty names kept read took =
+    was least same surveyed lt here empty names kept steady read took =
     let more : List ℕ = takes ks kind new named in
     let part : IsPartOf more (minus (unused old) found) = subst (IsPartOf more) was.left (takes_part ks kind new named) in
     let table : new' ≡ all_moved found' l old =
@@ -133,7 +133,7 @@ walking_more {told = told} {reads = reads} {geo = geo} {kind} {root} {l} {src0} 
     ∙ ap (λ (ps : List ℕ). all_moved ps l old) (sym took.found) in
     let pages : new.pages ≡ geo.pages = (walking_moves was).same_pages ∙ same in
     record {
-      kept = KeepsSource-trans was.kept kept;
+      kept = passed_more was.kept kept steady;
       part = subst (λ (ps : List ℕ). IsPartOf ps (unused old)) (sym took.found) (part_append (unused old) found more was.part part);
       table = table;
       left = ap unused table ∙ unused-all_moved found' l old least;

@@ -1,7 +1,8 @@
 -- Each readable cell of a page has its evidence.
 use Rattle.std.proofs.Common.{◌≡◌, ◌≤◌, ℕ, suc, ◌+◌, ◌==◌, Bool, true, false, Option, Some, None, List, [], ◌∷◌, ◌++◌, refl, sym, ◌∙◌, ap, subst, arith}
-use Rattle.std.specs.Prelude.{if◌then◌else◌, slice_get, IfSome, OnOk, Result, Ok, Err}
-use Rattle.std.specs.List.{AllByRecursion, slice_range}
+use Rattle.std.specs.Prelude.{nat_le, if◌then◌else◌, slice_get, IfSome, OnOk, Result, Ok, Err}
+use Rattle.std.proofs.lemmas.Bool.{and_from, le-leb}
+use Rattle.std.specs.List.{AllByRecursion, flat_map, slice_range}
 use Rattle.page_access.specs.Pages.{File, page_at}
 use Rattle.page_lists.specs.Lists.{count, minus, without}
 use Rattle.page_access.specs.Files.{file_of}
@@ -15,14 +16,16 @@ use Rattle.record_core.proofs.Found.{record_found}
 use Rattle.cell_reader.specs.declared.shapes.PageShape.{PageShape}
 use Rattle.cell_reader.specs.declared.cells.CellView.{CellView}
 use Rattle.cell_reader.specs.Inside.{has_payload}
-use Rattle.cell_reader.specs.Screen.{Verdict, Kept, Faulty, Overlaps, verdicts}
+use Rattle.cell_reader.specs.Screen.{Verdict, Accepts, Faulty, Overlaps, verdicts}
 use Rattle.overflow_chain.specs.declared.ChainEnd.{ChainEnd}
 use Rattle.overflow_chain.specs.declared.ChainEnd.TheVariants.{Whole, Broken}
 use Rattle.overflow_chain.proofs.Longest.{whole_turn_is_chain}
-use Rattle.page_walk.specs.Cells.{Row, Outcome, Read, Lost, missing, turn_from, bytes_from, end_from, read_as, ended_as, entry_at, outcome_at, outcomes_from, outcomes_in, outcomes_on, outcomes_with, chains_of}
+use Rattle.page_walk.specs.Bounds.{ArePages}
+use Rattle.page_walk.specs.Cells.{Row, Outcome, Read, Unread, missing, turn_from, bytes_from, end_from, read_as, ended_as, entry_at, outcome_at, outcomes_from, outcomes_in, outcomes_on, outcomes_with, chains_of}
 use Rattle.page_walk.specs.Evidence.{Evidence, IsRest, AreOnce, ReadableHaveEvidence}
 use Rattle.page_walk.specs.Page.{screened_as, shape_on, verdicts_on, verdicts_in}
 use Rattle.page_walk.specs.Rows.{rows_of}
+use Rattle.page_walk.specs.Turns.{left_by, turns_on}
 use Rattle.page_walk.proofs.Going.{all_append}
 use Rattle.page_walk.proofs.Small.{record_short}
 
@@ -42,7 +45,7 @@ fewer_minus q xs (p ∷ ps) = omega (arith, fewer_minus q (without p xs) ps, few
 rows_append : (xs ys : List Outcome) → rows_of (xs ++ ys) ≡ rows_of xs ++ rows_of ys
 rows_append [] ys = refl
 rows_append (Read row ∷ xs) ys = ap (λ (rs : List Row). row ∷ rs) (rows_append xs ys)
-rows_append (Lost cell cause chain ∷ xs) ys = rows_append xs ys
+rows_append (Unread u ∷ xs) ys = rows_append xs ys
 
 -- a whole turn gives the rest of the payload
 rest_is : (f : File) (need : ℕ) (overflow : Option ℕ) (unused : List ℕ) → AreOnce f.pages unused
@@ -53,9 +56,10 @@ rest_is f need (Some q) unused once e = (whole_turn_is_chain f q need unused onc
 
 -- the cell of a page that is reached
 record Reached (f : File) (p : ℕ) (shape : PageShape) (i : ℕ) (v : CellView) : Type 0 where
+  of_file : is_page f.pages p ≡ true
   has_shape : shape_on f p ≡ Some shape
   has_record : has_payload shape.kind shape.leaf ≡ true
-  accepted : slice_get (verdicts_on f p) i ≡ Some (Kept v)
+  accepted : slice_get (verdicts_on f p) i ≡ Some (Accepts v)
 
 entry_evidence : (f : File) (p : ℕ) (shape : PageShape) (i : ℕ) (v : CellView) (unused : List ℕ) → AreOnce f.pages unused
     → Reached f p shape i v → AllByRecursion (Evidence f) (rows_of (entry_at f (page_at f p) p i v unused ∷ []))
@@ -72,6 +76,7 @@ entry_evidence f p shape i v unused once at =
         shape = shape;
         view = v;
         rest = bytes_from f (missing v) v.overflow unused;
+        of_file = at.of_file;
         has_shape = at.has_shape;
         has_record = at.has_record;
         accepted = at.accepted;
@@ -90,44 +95,44 @@ entry_evidence f p shape i v unused once at =
     by_end (Broken q why) w = tt
 
 one_evidence : (f : File) (p : ℕ) (shape : PageShape) (payload : Bool) (i : ℕ) (v : Verdict) (unused : List ℕ)
-    → AreOnce f.pages unused → shape_on f p ≡ Some shape → has_payload shape.kind shape.leaf ≡ payload
+    → is_page f.pages p ≡ true → AreOnce f.pages unused → shape_on f p ≡ Some shape → has_payload shape.kind shape.leaf ≡ payload
     → slice_get (verdicts_on f p) i ≡ Some v
     → AllByRecursion (Evidence f) (rows_of (outcome_at f (page_at f p) p payload i (screened_as v) unused))
-one_evidence f p shape true i (Kept w) unused once has pay got =
-    entry_evidence f p shape i w unused once (record { has_shape = has; has_record = pay; accepted = got })
-one_evidence f p shape false i (Kept w) unused once has pay got = tt
-one_evidence f p shape payload i (Faulty fault) unused once has pay got = tt
-one_evidence f p shape payload i Overlaps unused once has pay got = tt
+one_evidence f p shape true i (Accepts w) unused page once has pay got =
+    entry_evidence f p shape i w unused once (record { of_file = page; has_shape = has; has_record = pay; accepted = got })
+one_evidence f p shape false i (Accepts w) unused page once has pay got = tt
+one_evidence f p shape payload i (Faulty fault) unused page once has pay got = tt
+one_evidence f p shape payload i Overlaps unused page once has pay got = tt
 
 from_evidence : (f : File) (p : ℕ) (shape : PageShape) (payload : Bool) (i : ℕ) (vs : List Verdict) (unused : List ℕ)
-    → AreOnce f.pages unused → shape_on f p ≡ Some shape → has_payload shape.kind shape.leaf ≡ payload
+    → is_page f.pages p ≡ true → AreOnce f.pages unused → shape_on f p ≡ Some shape → has_payload shape.kind shape.leaf ≡ payload
     → ((j : ℕ) → slice_get vs j ≡ slice_get (verdicts_on f p) (i + j))
     → AllByRecursion (Evidence f) (rows_of (outcomes_from f (page_at f p) p payload i vs unused))
-from_evidence f p shape payload i [] unused once has pay same = tt
-from_evidence f p shape payload i (v ∷ vs) unused once has pay same =
+from_evidence f p shape payload i [] unused page once has pay same = tt
+from_evidence f p shape payload i (v ∷ vs) unused page once has pay same =
     let later : List ℕ = minus unused (chains_of (outcome_at f (page_at f p) p payload i (screened_as v) unused)) in
     let none : i + 0 ≡ i = omega arith in
     let got : slice_get (verdicts_on f p) i ≡ Some v = ap (slice_get (verdicts_on f p)) (sym none) ∙ sym (same 0) in
     subst (AllByRecursion (Evidence f))
     (sym (rows_append (outcome_at f (page_at f p) p payload i (screened_as v) unused)
     (outcomes_from f (page_at f p) p payload (i + 1) vs later)))
-    (all_append (Evidence f) _ _ (one_evidence f p shape payload i v unused once has pay got)
-    (from_evidence f p shape payload (i + 1) vs later
+    (all_append (Evidence f) _ _ (one_evidence f p shape payload i v unused page once has pay got)
+    (from_evidence f p shape payload (i + 1) vs later page
     (λ q. omega (arith, once q, fewer_minus q unused (chains_of (outcome_at f (page_at f p) p payload i (screened_as v) unused))))
     has pay (λ j. let on : i + suc j ≡ i + 1 + j = omega arith in
     same (suc j) ∙ ap (slice_get (verdicts_on f p)) on)))
 
-shape_evidence : (f : File) (p : ℕ) (unused : List ℕ) (s : Option PageShape) → AreOnce f.pages unused → shape_on f p ≡ s
+shape_evidence : (f : File) (p : ℕ) (unused : List ℕ) (s : Option PageShape) → is_page f.pages p ≡ true → AreOnce f.pages unused → shape_on f p ≡ s
     → AllByRecursion (Evidence f) (rows_of (outcomes_with f p s unused))
 unfolding outcomes_in
-shape_evidence f p unused None once e = tt
-shape_evidence f p unused (Some shape) once e =
-    from_evidence f p shape (has_payload shape.kind shape.leaf) 0 (verdicts (page_at f p) f.usable f.pages shape) unused once e refl
+shape_evidence f p unused None page once e = tt
+shape_evidence f p unused (Some shape) page once e =
+    from_evidence f p shape (has_payload shape.kind shape.leaf) 0 (verdicts (page_at f p) f.usable f.pages shape) unused page once e refl
     (λ j. let none : j ≡ 0 + j = omega arith in
     ap (λ (vs : List Verdict). slice_get vs j) (sym (ap (verdicts_in f p) e)) ∙ ap (slice_get (verdicts_on f p)) none)
 
 pub readable_have_evidence : ReadableHaveEvidence
-readable_have_evidence f p unused once = shape_evidence f p unused (shape_on f p) once refl
+readable_have_evidence f p unused page once = shape_evidence f p unused (shape_on f p) page once refl
 
 -- the unused pages of a table are pages of the file, each once
 pub unused_once : (t : Table) (pages : ℕ) → IsPartition t → t.pages ≡ pages → AreOnce pages (unused t)
@@ -136,10 +141,20 @@ unused_once t pages each same q =
     (subst (λ (n : ℕ). count q (unused t) ≤ n) (each q) (count-list_at q 0 t.lists))
 
 -- what holds whatever was answered, where the source tells its bytes
-pub evidence_told : {A E : Type 0} (r : Result A E) (o : Option (List ℕ)) (geo : Geometry) (p : ℕ) (t : Table) → IsPartition t
+pub evidence_told : {A E : Type 0} (r : Result A E) (o : Option (List ℕ)) (geo : Geometry) (p : ℕ) (t : Table) → 1 ≤ p → p ≤ geo.pages → IsPartition t
     → t.pages ≡ geo.pages
     → OnOk r (IfSome o (λ all. AllByRecursion (Evidence (file_of all geo)) (rows_of (outcomes_on (file_of all geo) p (unused t)))))
-evidence_told (Err e) o geo p t each same = tt
-evidence_told (Ok a) None geo p t each same = tt
-evidence_told (Ok a) (Some all) geo p t each same =
-    readable_have_evidence (file_of all geo) p (unused t) (unused_once t geo.pages each same)
+evidence_told (Err e) o geo p t low high each same = tt
+evidence_told (Ok a) None geo p t low high each same = tt
+evidence_told (Ok a) (Some all) geo p t low high each same =
+    readable_have_evidence (file_of all geo) p (unused t) (and_from (nat_le 1 p) (nat_le p geo.pages) (le-leb 1 p low) (le-leb p geo.pages high)) (unused_once t geo.pages each same)
+
+-- each readable cell of pages has its evidence, whatever the pages before left
+pub pages_have_evidence : (f : File) (ps unused : List ℕ) → ArePages f.pages ps → AreOnce f.pages unused
+    → AllByRecursion (Evidence f) (flat_map (λ (t : ℕ × List Outcome). rows_of t.1) (turns_on f ps unused))
+pages_have_evidence f [] unused are once = tt
+pages_have_evidence f (p ∷ ps) unused are once =
+    all_append (Evidence f) (rows_of (outcomes_on f p unused)) _
+    (readable_have_evidence f p unused (and_from (nat_le 1 p) (nat_le p f.pages) (le-leb 1 p are.0.0) (le-leb p f.pages are.0.1)) once)
+    (pages_have_evidence f ps (left_by f p unused) are.1
+    (λ q. omega (arith, once q, fewer_minus q unused (chains_of (outcomes_on f p unused)))))

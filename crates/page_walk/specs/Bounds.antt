@@ -3,19 +3,10 @@ use Rattle.std.specs.Prelude.{◌≡◌, ◌≤◌, ℕ, ◌*◌, ◌/◌, List,
 use Rattle.std.specs.List.{AllByRecursion}
 use Rattle.page_lists.specs.Table.{Table, all_moved}
 use Rattle.overflow_chain.specs.declared.TheConstants.{OVERFLOW_LIST}
-use Rattle.record_core.specs.declared.values.Value.{Value}
-use Rattle.record_core.specs.declared.values.Value.TheVariants.{Null, Whole, Real8, Text, Blob}
+use Rattle.record_core.specs.Record.{value_len}
 use Rattle.page_walk.specs.declared.outcomes.TakenCell.{TakenCell}
 use Rattle.page_walk.specs.declared.outcomes.CellOutcome.{CellOutcome}
-use Rattle.page_walk.specs.Cells.{Row, Outcome, Read, Lost, outcome_of, row_of, chains_of}
-
--- bytes that a value holds
-abbrev pub value_len : Value → ℕ
-value_len Null = 0
-value_len (Whole number) = 0
-value_len (Real8 bytes) = length bytes
-value_len (Text bytes) = length bytes
-value_len (Blob bytes) = length bytes
+use Rattle.page_walk.specs.Cells.{Row, Outcome, Read, Unread, outcome_of, row_of, chains_of}
 
 -- each page is one of 1 to `pages`
 abbrev pub ArePages : ℕ → List ℕ → Type 0
@@ -30,7 +21,7 @@ pub record IsSmallRow (usable pages page : ℕ) (row : Row) : Type 0 where
 
 abbrev pub IsSmall : ℕ → ℕ → ℕ → Outcome → Type 0
 IsSmall usable pages page (Read row) = IsSmallRow usable pages page row
-IsSmall usable pages page (Lost cell cause chain) = ArePages pages chain
+IsSmall usable pages page (Unread u) = ArePages pages u.chain
 
 -- `new` is `old` and then a few small outcomes of cells of the page
 pub record Adds (usable pages page : ℕ) (old new : List CellOutcome) : Type 0 where

@@ -29,10 +29,18 @@ pub record Row : Type 0 where
   pub chain : List ℕ
   pub fields : List Value
 
--- what becomes of a cell: it is read, or it has a cause not to be, and its chain took some pages
+-- a cell that is not read: its number, its rowid where it is an accepted cell of a table page, why it is not
+-- read, and the pages that its chain took
+pub record UnreadCell : Type 0 where
+  pub cell : ℕ
+  pub rowid : Option ℤ
+  pub cause : CellCause
+  pub chain : List ℕ
+
+-- what becomes of a cell: it is read, or it is not
 pub data Outcome : Type 0 where
   Read : Row → Outcome
-  Lost : ℕ → CellCause → List ℕ → Outcome
+  Unread : UnreadCell → Outcome
 
 -- the same in the program's terms
 abbrev pub row_of : TakenCell → Row
@@ -40,12 +48,12 @@ row_of t = record { page = t.place.page; cell = t.place.cell; rowid = t.rowid; c
 
 abbrev pub outcome_of : CellOutcome → Outcome
 outcome_of (outcomes.Taken t) = Read (row_of t)
-outcome_of (outcomes.Unread cell cause chain) = Lost cell cause chain.items
+outcome_of (outcomes.Unread cell rowid cause chain) = Unread (record { cell = cell; rowid = rowid; cause = cause; chain = chain.items })
 
 -- the pages that a cell's chain took
 abbrev pub chain_of : Outcome → List ℕ
 chain_of (Read row) = row.chain
-chain_of (Lost cell cause chain) = chain
+chain_of (Unread u) = u.chain
 
 -- the pages that the chains of cells took, in turn
 abbrev pub chains_of : List Outcome → List ℕ
@@ -72,12 +80,12 @@ end_from f need (Some q) unused = end_of f q need unused
 -- a cell whose payload is whole and reads so
 abbrev pub read_as : ℕ → ℕ → Option ℤ → List ℕ → Result (List Value) RecordFault → Outcome
 read_as p i rowid chain (Ok fields) = Read (record { page = p; cell = i; rowid = rowid; chain = chain; fields = fields })
-read_as p i rowid chain (Err fault) = Lost i BadRecord chain
+read_as p i rowid chain (Err fault) = Unread (record { cell = i; rowid = rowid; cause = BadRecord; chain = chain })
 
 -- a cell whose turn ended so, with these bytes of its payload
 abbrev pub ended_as : ℕ → ℕ → Option ℤ → List ℕ → List ℕ → ChainEnd → Outcome
 ended_as p i rowid chain payload Whole = read_as p i rowid chain (record_of payload)
-ended_as p i rowid chain payload (Broken at why) = Lost i Chain chain
+ended_as p i rowid chain payload (Broken at why) = Unread (record { cell = i; rowid = rowid; cause = Chain; chain = chain })
 
 -- cell i of page p, an entry, at its turn
 unfoldable pub entry_at : File → List ℕ → ℕ → ℕ → CellView → List ℕ → Outcome
@@ -88,7 +96,7 @@ entry_at f page p i v unused = ended_as p i v.rowid (turn_from f (missing v) v.o
 -- cell i of page p, on a page whose cells have a payload or have none: an accepted cell without one has
 -- no outcome
 abbrev pub outcome_at : File → List ℕ → ℕ → Bool → ℕ → Result CellView CellCause → List ℕ → List Outcome
-outcome_at f page p payload i (Err cause) unused = Lost i cause [] ∷ []
+outcome_at f page p payload i (Err cause) unused = Unread (record { cell = i; rowid = None; cause = cause; chain = [] }) ∷ []
 outcome_at f page p payload i (Ok v) unused = if payload then entry_at f page p i v unused ∷ [] else []
 
 -- the cells with these verdicts from cell i on, each of which takes its turn of the unused pages that the

@@ -8,7 +8,7 @@ use Rattle.record_core.specs.Spelling.{IsRecord}
 use Rattle.cell_reader.specs.declared.shapes.PageShape.{PageShape}
 use Rattle.cell_reader.specs.declared.cells.CellView.{CellView}
 use Rattle.cell_reader.specs.Inside.{has_payload}
-use Rattle.cell_reader.specs.Screen.{Kept}
+use Rattle.cell_reader.specs.Screen.{Accepts}
 use Rattle.overflow_chain.specs.Chain.{IsChain}
 use Rattle.page_walk.specs.Cells.{Row, missing, outcomes_on}
 use Rattle.page_walk.specs.Page.{shape_on, verdicts_on}
@@ -20,15 +20,17 @@ abbrev pub IsRest : File → ℕ → Option ℕ → List ℕ → List ℕ → Ty
 IsRest f need None chain rest = (chain ≡ []) × (rest ≡ [])
 IsRest f need (Some q) chain rest = IsChain f q need chain rest
 
--- The row stands in the file. The cell of its page and number is accepted and has a payload; the payload
--- is its local bytes and then those of its chain, and is a record of these values; the rowid is the cell's.
+-- The row stands in the file. Its page is one of 1 to n; the cell of this page and number is accepted and has a
+-- payload; the payload is its local bytes and then those of its chain, and is a record of these values; the rowid is
+-- the cell's.
 pub record Evidence (f : File) (row : Row) : Type 0 where
   pub shape : PageShape
   pub view : CellView
   pub rest : List ℕ
+  pub of_file : is_page f.pages row.page ≡ true
   pub has_shape : shape_on f row.page ≡ Some shape
   pub has_record : has_payload shape.kind shape.leaf ≡ true
-  pub accepted : slice_get (verdicts_on f row.page) row.cell ≡ Some (Kept view)
+  pub accepted : slice_get (verdicts_on f row.page) row.cell ≡ Some (Accepts view)
   pub chain : IsRest f (missing view) view.overflow row.chain rest
   pub values : IsRecord (slice_range (page_at f row.page) view.local_start view.local_end ++ rest) row.fields
   pub few : length row.fields ≤ 1996
@@ -38,7 +40,7 @@ pub record Evidence (f : File) (row : Row) : Type 0 where
 abbrev pub AreOnce : ℕ → List ℕ → Type 0
 AreOnce pages unused = (q : ℕ) → count q unused ≤ (if is_page pages q then 1 else 0)
 
--- each readable cell of a page has its evidence
+-- each readable cell of a page of the file has its evidence
 abbrev pub ReadableHaveEvidence : Type 0
-ReadableHaveEvidence = (f : File) (p : ℕ) (unused : List ℕ) → AreOnce f.pages unused
+ReadableHaveEvidence = (f : File) (p : ℕ) (unused : List ℕ) → is_page f.pages p ≡ true → AreOnce f.pages unused
     → AllByRecursion (Evidence f) (rows_of (outcomes_on f p unused))

@@ -1,6 +1,7 @@
 pub mod Bounds
 pub mod Cells
 pub mod Evidence
+pub mod InTurn
 pub mod Kinds
 pub mod Page
 pub mod Pointers

@@ -6,7 +6,7 @@ use Rattle.cell_reader.specs.declared.cells.CellView.{CellView}
 use Rattle.cell_reader.specs.declared.cells.CellFault.{CellFault}
 use Rattle.cell_reader.specs.declared.cells.CellFault.TheVariants.{Pointer as pointer, Cut as cut, Length as len}
 use Rattle.cell_reader.specs.Shape.{shape_of}
-use Rattle.cell_reader.specs.Screen.{Verdict, Kept, Faulty, Overlaps, verdicts}
+use Rattle.cell_reader.specs.Screen.{Verdict, Accepts, Faulty, Overlaps, verdicts}
 use Rattle.page_walk.specs.declared.causes.CellCause.{CellCause}
 use Rattle.page_walk.specs.declared.causes.CellCause.TheVariants.{Pointer, Cut, Length, Overlap}
 
@@ -31,6 +31,6 @@ cause_of len = Length
 
 -- a verdict as a result: the accepted cell, or why the cell is not accepted
 abbrev pub screened_as : Verdict → Result CellView CellCause
-screened_as (Kept v) = Ok v
+screened_as (Accepts v) = Ok v
 screened_as (Faulty fault) = Err (cause_of fault)
 screened_as Overlaps = Err Overlap

@@ -5,13 +5,13 @@ use Rattle.page_access.specs.Pages.{File, page_at}
 use Rattle.cell_reader.specs.declared.shapes.PageShape.{PageShape}
 use Rattle.cell_reader.specs.declared.cells.CellView.{CellView}
 use Rattle.page_walk.specs.declared.causes.CellCause.{CellCause}
-use Rattle.cell_reader.specs.Screen.{Verdict, Kept, Faulty, Overlaps, accepted_cells, pointers_in}
+use Rattle.cell_reader.specs.Screen.{Verdict, Accepts, Faulty, Overlaps, accepted_cells, pointers_in}
 use Rattle.page_walk.specs.Page.{shape_on}
 
 -- the children of the accepted cells among those with these verdicts, in cell order
 abbrev pub children_by : List Verdict → List ℕ
 children_by [] = []
-children_by (Kept v ∷ rest) = option_to_list v.child ++ children_by rest
+children_by (Accepts v ∷ rest) = option_to_list v.child ++ children_by rest
 children_by (Faulty fault ∷ rest) = children_by rest
 children_by (Overlaps ∷ rest) = children_by rest
 

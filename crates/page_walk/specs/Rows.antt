@@ -5,25 +5,25 @@ use Rattle.page_walk.specs.declared.outcomes.TakenCell.{TakenCell}
 use Rattle.page_walk.specs.declared.outcomes.CellOutcome.{CellOutcome}
 use Rattle.page_walk.specs.declared.outcomes.CellOutcome.TheVariants as outcomes
 use Rattle.page_walk.specs.declared.rows.PageNotes.{PageNotes}
-use Rattle.page_walk.specs.Cells.{Row, Outcome, Read, Lost}
+use Rattle.page_walk.specs.Cells.{Row, Outcome, Read, Unread}
 
 -- the cells that are read, in cell order
 abbrev pub rows_of : List Outcome → List Row
 rows_of [] = []
 rows_of (Read row ∷ rest) = row ∷ rows_of rest
-rows_of (Lost cell cause chain ∷ rest) = rows_of rest
+rows_of (Unread u ∷ rest) = rows_of rest
 
 -- the same in the program's terms
 abbrev pub taken_in : List CellOutcome → List TakenCell
 taken_in [] = []
 taken_in (outcomes.Taken t ∷ rest) = t ∷ taken_in rest
-taken_in (outcomes.Unread cell cause chain ∷ rest) = taken_in rest
+taken_in (outcomes.Unread cell rowid cause chain ∷ rest) = taken_in rest
 
 -- the other cells in cell order, each with its cause
 abbrev pub causes_of : List Outcome → List (ℕ × CellCause)
 causes_of [] = []
 causes_of (Read row ∷ rest) = causes_of rest
-causes_of (Lost cell cause chain ∷ rest) = (cell, cause) ∷ causes_of rest
+causes_of (Unread u ∷ rest) = (u.cell, u.cause) ∷ causes_of rest
 
 -- how many cells are not read, and the first of them with its cause
 abbrev pub notes_of : List Outcome → PageNotes
@@ -32,8 +32,8 @@ notes_of os = record { unread = length (causes_of os); first = slice_get (causes
 -- the notes of the cells before and of one more
 abbrev pub notes_with : PageNotes → Outcome → PageNotes
 notes_with notes (Read row) = notes
-notes_with notes (Lost cell cause chain) =
-    record { unread = notes.unread + 1; first = Some (unwrap_or notes.first (cell, cause)) }
+notes_with notes (Unread u) =
+    record { unread = notes.unread + 1; first = Some (unwrap_or notes.first (u.cell, u.cause)) }
 
 -- `new` is `old` and then a front of the cells
 pub record GainsFront (cells old new : List TakenCell) : Type 0 where

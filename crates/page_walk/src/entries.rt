@@ -86,6 +86,7 @@ fn judge(
         Err(RecordFault::Memory) => Err(ReadFault::Memory),
         Err(_) => Ok(CellOutcome::Unread {
             cell: place.cell,
+            rowid,
             cause: CellCause::BadRecord,
             chain,
         }),
@@ -129,6 +130,7 @@ fn take_entry<S: Source>(
     if end != ChainEnd::Whole {
         return Ok(CellOutcome::Unread {
             cell: place.cell,
+            rowid: view.rowid,
             cause: CellCause::Chain,
             chain,
         });
@@ -169,6 +171,7 @@ pub fn take_cell<S: Source>(
         Err(cause) => {
             return Ok(Some(CellOutcome::Unread {
                 cell: place.cell,
+                rowid: None,
                 cause,
                 chain: Vec::new(alloc),
             }));

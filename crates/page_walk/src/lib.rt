@@ -13,15 +13,17 @@ mod pushes;
 mod rows;
 mod screens;
 mod surveys;
+mod turns;
 mod walks;
 
 pub use causes::CellCause;
-pub use cells::cells_of;
+pub use cells::{cells_of, cells_with};
 pub use laws::{children_are_named, walk_is_tree};
-pub use named::pointers;
+pub use named::{pointers, pointers_with};
 pub use outcomes::{CellOutcome, Place, TakenCell};
-pub use rows::{PageNotes, read_cells};
+pub use rows::{PageNotes, read_cells, sort_outcomes};
 pub use surveys::{PageKinds, survey};
+pub use turns::{PageTurn, read_turns};
 pub use walks::walk_tree;
 
 /// The number of lists of a page table: as many as the order of use has.

@@ -1,15 +1,17 @@
 //! The pages that a page names.
 ghost use Rattle.std.specs.Prelude.{◌≡◌, ◌≤◌, ◌+◌, ◌*◌, ◌/◌, ◌++◌, length, IfOk, IfSome, OnOk, Some};
 ghost use Rattle.cell_reader.specs.Shape.{shape_at};
+ghost use Rattle.page_access.specs.Cache.{HasAll, IsCacheOf};
 ghost use Rattle.page_access.specs.Files.{IsWhole, file_of};
 ghost use Rattle.page_access.specs.Outside.{HasCauseOf, KeepsSource};
 ghost use Rattle.page_walk.specs.Pointers.{child_by, children_in, pointers_on};
 
 use crate::causes::CellCause;
+use crate::pages::read_page;
 use crate::pushes::push_some;
 use crate::screens::screen;
 use cell_reader::{Accepted, CellView, PageShape, right_child, shape};
-use page_access::{Geometry, ReadFault, Source, load};
+use page_access::{Geometry, PageCache, ReadFault, Source};
 use std::alloc::{AllocError, Global};
 
 // The child that a cell names, where it is accepted.
@@ -47,11 +49,12 @@ fn push_children(
     Ok(())
 }
 
-// Reads page `page` into `buffer`, and appends the pages that it names as `pointers` does.
-// `accepted` is for the bytes of its cells.
-pub fn push_pointers<S: Source>(
+/// As `pointers`, where `buffer` is for the bytes of the page and `accepted` for those of its cells: who goes over many
+/// pages makes them once.
+pub fn pointers_with<S: Source>(
     src: &mut S,
     geo: &Geometry,
+    cache: &mut PageCache,
     page: u32,
     buffer: &mut [u8],
     accepted: &mut Accepted,
@@ -61,6 +64,7 @@ pub fn push_pointers<S: Source>(
     requires page_most { page ≤ geo.now.pages }
     requires size { length buffer.old ≡ geo.now.page_size }
     requires marks { length accepted.old ≡ geo.now.usable }
+    requires cached { IsCacheOf (S.bytes src.old) geo.now cache.old }
     ensures value { OnOk result (IfSome (S.bytes src.old)
         (λ all. to.new.items ≡ to.old.items ++ pointers_on (file_of all geo.now) page)) }
     ensures marks { length accepted.new ≡ length accepted.old }
@@ -69,8 +73,10 @@ pub fn push_pointers<S: Source>(
     ensures bound { length to.new.items ≤ length to.old.items + geo.now.usable / 2 }
     ensures reads { IfSome (S.bytes src.old)
         (λ all. IsWhole all geo.now → S.reads src.new ≤ S.reads src.old + 1) }
+    ensures cached { IsCacheOf (S.bytes src.old) geo.now cache.new }
+    ensures full { HasAll cache.old → HasAll cache.new × (src.new ≡ src.old) }
 {
-    load(src, geo, page, buffer)?;
+    read_page(src, geo, cache, page, buffer)?;
     let Some(shape) = shape(buffer, page, geo) else {
         return Ok(());
     };
@@ -88,11 +94,13 @@ pub fn pointers<S: Source>(
     alloc: Global,
     src: &mut S,
     geo: &Geometry,
+    cache: &mut PageCache,
     page: u32,
     to: &mut Vec<u32>,
 ) -> Result<(), ReadFault>
     requires page_least { 1 ≤ page }
     requires page_most { page ≤ geo.now.pages }
+    requires cached { IsCacheOf (S.bytes src.old) geo.now cache.old }
     ensures value { OnOk result (IfSome (S.bytes src.old)
         (λ all. to.new.items ≡ to.old.items ++ pointers_on (file_of all geo.now) page)) }
     ensures cause { HasCauseOf ReadFault.Source (S.faults src.old) (S.faults src.new) result }
@@ -100,8 +108,18 @@ pub fn pointers<S: Source>(
     ensures bound { length to.new.items ≤ length to.old.items + geo.now.usable / 2 }
     ensures reads { IfSome (S.bytes src.old)
         (λ all. IsWhole all geo.now → S.reads src.new ≤ S.reads src.old + 1) }
+    ensures cached { IsCacheOf (S.bytes src.old) geo.now cache.new }
+    ensures full { HasAll cache.old → HasAll cache.new × (src.new ≡ src.old) }
 {
     let mut buffer = vec![in alloc; 0; geo.page_size as usize]?;
     let mut accepted = Accepted::new(alloc, geo.usable)?;
-    push_pointers(src, geo, page, buffer.as_mut_slice(), &mut accepted, to)
+    pointers_with(
+        src,
+        geo,
+        cache,
+        page,
+        buffer.as_mut_slice(),
+        &mut accepted,
+        to,
+    )
 }

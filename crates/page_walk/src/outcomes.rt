@@ -30,6 +30,8 @@ pub enum CellOutcome {
     Unread {
         /// Its number on its page, counted from 0.
         cell: u32,
+        /// Its rowid where it is an accepted cell of a table leaf; else none.
+        rowid: Option<i64>,
         cause: CellCause,
         /// The overflow pages that its payload took before that was known; none but for the causes
         /// `Chain` and `BadRecord`.

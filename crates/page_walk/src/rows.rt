@@ -1,6 +1,7 @@
 //! The readable cells of a page.
 ghost use Rattle.std.specs.Prelude.{◌≡◌, ◌≤◌, ◌<◌, ◌+◌, ◌^◌, [], ◌∷◌, ◌++◌, length, map, IfOk, IfSome, OnErr, OnOk, is_ok, if◌then◌else◌};
 ghost use Rattle.std.specs.List.{AllByRecursion};
+ghost use Rattle.page_access.specs.Cache.{HasAll, IsCacheOf};
 ghost use Rattle.page_access.specs.Files.{file_of};
 ghost use Rattle.page_access.specs.Outside.{HasCauseOf, KeepsSource};
 ghost use Rattle.page_access.specs.declared.outside.ReadFault.TheVariants as faults;
@@ -14,7 +15,7 @@ ghost use Rattle.page_walk.specs.Turns.{ReadsEach, after_turns};
 use crate::CellCause;
 use crate::cells::cells_of;
 use crate::outcomes::{CellOutcome, TakenCell};
-use page_access::{Geometry, ReadFault, Source};
+use page_access::{Geometry, PageCache, ReadFault, Source};
 use page_lists::PageTable;
 use std::alloc::{AllocError, Global};
 
@@ -50,8 +51,8 @@ fn sort_one(
     }
 }
 
-// Appends the cells that are read, and notes the others.
-fn sort_out(outcomes: Vec<CellOutcome>, to: &mut Vec<TakenCell>) -> Result<PageNotes, AllocError>
+/// Appends the cells that are read, and notes the others.
+pub fn sort_outcomes(outcomes: Vec<CellOutcome>, to: &mut Vec<TakenCell>) -> Result<PageNotes, AllocError>
     requires { length outcomes.items ≤ 32768 }
     ensures rows { OnOk result (to.new.items ≡ to.old.items ++ taken_in outcomes.items) }
     ensures notes { IfOk result (λ n. n ≡ notes_of (map outcome_of outcomes.items)) }
@@ -75,6 +76,7 @@ pub fn read_cells<S: Source>(
     alloc: Global,
     src: &mut S,
     geo: &Geometry,
+    cache: &mut PageCache,
     table: &mut PageTable,
     page: u32,
     to: &mut Vec<TakenCell>,
@@ -83,6 +85,7 @@ pub fn read_cells<S: Source>(
     requires page_most { page ≤ geo.now.pages }
     requires same_pages { table.old.pages ≡ geo.now.pages }
     requires lists { 7 ≤ length table.old.lists }
+    requires cached { IsCacheOf (S.bytes src.old) geo.now cache.old }
     ensures rows { OnOk result (IfSome (S.bytes src.old)
         (λ all. map row_of to.new.items ≡ map row_of to.old.items
         ++ rows_of (outcomes_on (file_of all geo.now) page (unused table.old)))) }
@@ -99,8 +102,11 @@ pub fn read_cells<S: Source>(
     ensures adds { AddsRows geo.now.usable geo.now.pages page to.old.items to.new.items }
     ensures reads { ReadsEach (S.bytes src.old) geo.now table.old table.new
         (S.reads src.old) (S.reads src.new) (if is_ok result then 1 else 2) }
+    ensures cached { IsCacheOf (S.bytes src.old) geo.now cache.new }
+    ensures full { HasAll cache.old → HasAll cache.new × ReadsEach (S.bytes src.old) geo.now
+        table.old table.new (S.reads src.old) (S.reads src.new) (if is_ok result then 0 else 1) }
 {
     let mut outcomes = Vec::new(alloc);
-    cells_of(alloc, src, geo, table, page, &mut outcomes)?;
-    Ok(sort_out(outcomes, to)?)
+    cells_of(alloc, src, geo, cache, table, page, &mut outcomes)?;
+    Ok(sort_outcomes(outcomes, to)?)
 }

@@ -1,14 +1,16 @@
 //! The kind of each page of a file.
-ghost use Rattle.std.specs.Prelude.{◌≡◌, ◌≤◌, ◌+◌, length, option_map, IfOk, IfSome};
+ghost use Rattle.std.specs.Prelude.{◌≡◌, ◌≤◌, ◌+◌, length, option_map, IfOk, IfSome, OnOk};
 ghost use Rattle.cell_reader.specs.Shape.{shape_of};
+ghost use Rattle.page_access.specs.Cache.{HasAll, IsCacheOf};
 ghost use Rattle.page_access.specs.Files.{IsWhole, file_of};
 ghost use Rattle.page_access.specs.Outside.{HasCauseOf, KeepsSource};
 ghost use Rattle.page_access.specs.declared.outside.ReadFault.TheVariants as faults;
 ghost use Rattle.page_walk.specs.Kinds.{kind_at};
 ghost use Rattle.page_walk.specs.Walk.{kinds_of};
 
+use crate::pages::read_page;
 use cell_reader::{Kind, shape};
-use page_access::{Geometry, ReadFault, Source, load};
+use page_access::{Geometry, PageCache, ReadFault, Source};
 use std::alloc::Global;
 use std::marker::Model;
 
@@ -47,8 +49,14 @@ fn kind_of(page: &[u8], number: u32, geo: &Geometry) -> Option<Kind>
     shape(page, number, geo).map(|shape| shape.kind)
 }
 
-/// The kind of each page. Each page is read once.
-pub fn survey<S: Source>(alloc: Global, src: &mut S, geo: &Geometry) -> Result<PageKinds, ReadFault>
+/// The kind of each page. Each page is asked for once; a cache with a slot for each has them all then.
+pub fn survey<S: Source>(
+    alloc: Global,
+    src: &mut S,
+    geo: &Geometry,
+    cache: &mut PageCache,
+) -> Result<PageKinds, ReadFault>
+    requires cached { IsCacheOf (S.bytes src.old) geo.now cache.old }
     ensures kinds { IfOk result (λ k. IfSome (S.bytes src.old)
         (λ all. k ≡ kinds_of (file_of all geo.now))) }
     ensures len { IfOk result (λ k. length k ≡ geo.now.pages) }
@@ -56,12 +64,15 @@ pub fn survey<S: Source>(alloc: Global, src: &mut S, geo: &Geometry) -> Result<P
     ensures kept { KeepsSource S.bytes S.attached S.faults S.reads src.old src.new }
     ensures reads { IfSome (S.bytes src.old)
         (λ all. IsWhole all geo.now → S.reads src.new ≤ S.reads src.old + geo.now.pages) }
+    ensures cached { IsCacheOf (S.bytes src.old) geo.now cache.new }
+    ensures has { OnOk result (geo.now.pages ≤ cache.old.slots → HasAll cache.new) }
+    ensures full { HasAll cache.old → HasAll cache.new × (src.new ≡ src.old) }
 {
     let mut page = vec![in alloc; 0; geo.page_size as usize]?;
     let buffer = page.as_mut_slice();
     let mut kinds = Vec::with_capacity(alloc, geo.pages as usize)?;
     for before in 0..geo.pages {
-        load(src, geo, before + 1, buffer)?;
+        read_page(src, geo, cache, before + 1, buffer)?;
         kinds.push(kind_of(buffer, before + 1, geo))?;
     }
     Ok(PageKinds { kinds })

@@ -2,7 +2,7 @@
 ghost use Rattle.std.specs.Prelude.{◌≡◌, ◌⊎◌};
 
 use crate::{CellCause, CellOutcome, PageNotes, cells_of, pointers, read_cells};
-use page_access::{Geometry, MemSource};
+use page_access::{Geometry, MemSource, PageCache};
 use page_lists::PageTable;
 use record_core::Value;
 use std::alloc::{AllocError, Global};
@@ -52,7 +52,9 @@ fn of_300_pointers_at_one_cell_the_first_is_taken(rt: HostRuntime) -> Result<(),
     let mut src = source(alloc, [&empty, &page, &empty])?;
     let mut table = PageTable::new(alloc, 3, 7)?;
     let mut cells = Vec::new(alloc);
-    let notes = read_cells(alloc, &mut src, &geometry(1024), &mut table, 2, &mut cells)?;
+    let geo = geometry(1024);
+    let mut cache = PageCache::new(alloc, &geo, 1)?;
+    let notes = read_cells(alloc, &mut src, &geo, &mut cache, &mut table, 2, &mut cells)?;
     let first = Some((1, CellCause::Overlap));
     assert_eq!(rt; notes, PageNotes { unread: 299, first });
     assert_eq!(rt; cells.len(), 1);
@@ -78,9 +80,11 @@ fn an_interior_page_names_its_children_and_then_the_right_most_page(
     let empty = [0; 512];
     let mut src = source(alloc, [&empty, &page, &empty])?;
     let mut named = [9].to_vec(alloc)?;
-    pointers(alloc, &mut src, &geometry(512), 2, &mut named)?;
+    let geo = geometry(512);
+    let mut cache = PageCache::new(alloc, &geo, 1)?;
+    pointers(alloc, &mut src, &geo, &mut cache, 2, &mut named)?;
     assert_eq!(rt; named.as_slice(), [9, 2, 3].as_slice());
-    pointers(alloc, &mut src, &geometry(512), 1, &mut named)?;
+    pointers(alloc, &mut src, &geo, &mut cache, 1, &mut named)?;
     assert_eq!(rt; named.len(), 3);
     Ok(())
 }
@@ -99,10 +103,13 @@ fn a_chain_that_names_itself_gives_no_values(rt: HostRuntime) -> Result<(), Fail
     let mut src = source(alloc, [&empty, &leaf, &chain])?;
     let mut table = PageTable::new(alloc, 3, 7)?;
     let mut outcomes = Vec::new(alloc);
+    let geo = geometry(512);
+    let mut cache = PageCache::new(alloc, &geo, 1)?;
     cells_of(
         alloc,
         &mut src,
-        &geometry(512),
+        &geo,
+        &mut cache,
         &mut table,
         2,
         &mut outcomes,
@@ -114,6 +121,7 @@ fn a_chain_that_names_itself_gives_no_values(rt: HostRuntime) -> Result<(), Fail
                 outcome,
                 CellOutcome::Unread {
                     cell: 0,
+                    rowid: Some(1),
                     cause: CellCause::Chain,
                     ..
                 }
@@ -139,7 +147,9 @@ fn a_row_with_an_overflow_page_is_read(rt: HostRuntime) -> Result<(), Fail> {
     let mut src = source(alloc, [&empty, &leaf, &empty])?;
     let mut table = PageTable::new(alloc, 3, 7)?;
     let mut cells = Vec::new(alloc);
-    let notes = read_cells(alloc, &mut src, &geometry(512), &mut table, 2, &mut cells)?;
+    let geo = geometry(512);
+    let mut cache = PageCache::new(alloc, &geo, 1)?;
+    let notes = read_cells(alloc, &mut src, &geo, &mut cache, &mut table, 2, &mut cells)?;
     assert_eq!(rt;
         notes,
         PageNotes {

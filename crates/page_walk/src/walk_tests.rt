@@ -4,7 +4,7 @@ ghost use Rattle.std.specs.Prelude.{◌<◌};
 use crate::tests::{geometry, put, source};
 use crate::{LISTS, survey, walk_tree};
 use cell_reader::Kind;
-use page_access::ReadFault;
+use page_access::{PageCache, ReadFault};
 use page_lists::PageTable;
 use std::alloc::Global;
 use std::test::Fail;
@@ -32,11 +32,22 @@ fn walk(
     put(&mut page, 0, third);
     let mut src = source(alloc, [&[0; 512], &names_itself(), &page])?;
     let geo = geometry(512);
-    let kinds = survey(alloc, &mut src, &geo)?;
+    let mut cache = PageCache::new(alloc, &geo, 3)?;
+    let kinds = survey(alloc, &mut src, &geo, &mut cache)?;
     let mut table = PageTable::new(alloc, 3, LISTS)?;
     table.move_to_back(2, list);
     let kind = Kind::Table;
-    let found = walk_tree(alloc, &mut src, &geo, &kinds, &mut table, root, kind, 2)?;
+    let found = walk_tree(
+        alloc,
+        &mut src,
+        &geo,
+        &mut cache,
+        &kinds,
+        &mut table,
+        root,
+        kind,
+        2,
+    )?;
     let lists = [table.list_of(1), table.list_of(2), table.list_of(3)];
     Ok((found, lists))
 }

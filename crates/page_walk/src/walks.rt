@@ -1,5 +1,6 @@
 //! The pages of a tree.
 ghost use Rattle.std.specs.Prelude.{◌≡◌, ◌≤◌, ◌<◌, ◌+◌, ◌&&◌, [], ◌∷◌, length, option_to_list, IfOk, IfSome, OnOk, is_ok, if◌then◌else◌};
+ghost use Rattle.page_access.specs.Cache.{HasAll, IsCacheOf};
 ghost use Rattle.page_access.specs.Files.{file_of};
 ghost use Rattle.page_access.specs.Outside.{HasCauseOf, KeepsSource};
 ghost use Rattle.page_access.specs.declared.outside.ReadFault.TheVariants as faults;
@@ -11,10 +12,10 @@ ghost use Rattle.page_walk.specs.Taking.{Took, is_of_kind, takes};
 ghost use Rattle.page_walk.specs.Turns.{ReadsEach};
 ghost use Rattle.page_walk.specs.Walk.{kinds_of, page_named, walk};
 
-use crate::named::push_pointers;
+use crate::named::pointers_with;
 use crate::surveys::PageKinds;
 use cell_reader::{Accepted, Kind};
-use page_access::{Geometry, ReadFault, Source};
+use page_access::{Geometry, PageCache, ReadFault, Source};
 use page_lists::PageTable;
 use std::alloc::{AllocError, Global};
 
@@ -26,6 +27,7 @@ pub fn walk_tree<S: Source>(
     alloc: Global,
     src: &mut S,
     geo: &Geometry,
+    cache: &mut PageCache,
     survey: &PageKinds,
     table: &mut PageTable,
     root: i64,
@@ -38,6 +40,7 @@ pub fn walk_tree<S: Source>(
     requires surveyed { length survey.now ≡ geo.now.pages }
     requires kinds { IfSome (S.bytes src.old)
         (λ all. survey.now ≡ kinds_of (file_of all geo.now)) }
+    requires cached { IsCacheOf (S.bytes src.old) geo.now cache.old }
     ensures value { IfOk result (λ v. IfSome (S.bytes src.old)
         (λ all. v.items ≡ walk (file_of all geo.now) (unused table.old) root kind)) }
     ensures tree { IfOk result (λ v. IfSome (S.bytes src.old)
@@ -51,6 +54,8 @@ pub fn walk_tree<S: Source>(
     ensures moves { Moves list table.old table.new }
     ensures reads { ReadsEach (S.bytes src.old) geo.now table.old table.new
         (S.reads src.old) (S.reads src.new) (if is_ok result then 0 else 1) }
+    ensures cached { IsCacheOf (S.bytes src.old) geo.now cache.new }
+    ensures full { HasAll cache.old → HasAll cache.new × (src.new ≡ src.old) }
 {
     let first = page_numbered(root, table.pages());
     let mut page = vec![in alloc; 0; geo.page_size as usize]?;
@@ -62,7 +67,15 @@ pub fn walk_tree<S: Source>(
     let mut at = 0;
     while at < found.len() {
         named.clear();
-        push_pointers(src, geo, found[at], buffer, &mut accepted, &mut named)?;
+        pointers_with(
+            src,
+            geo,
+            cache,
+            found[at],
+            buffer,
+            &mut accepted,
+            &mut named,
+        )?;
         take_all(survey, table, &named, kind, list, &mut found)?;
         at += 1;
     }

@@ -1,17 +1,17 @@
 -- The pages of the schema's tree: the reads of them, and what is claimed of the pages that a walk gave.
-use Rattle.std.proofs.Common.{◌≡◌, ◌∙◌, ◌≤◌, ℕ, ◌+◌, ◌*◌, if◌then◌else◌, Option, Result, Ok, Err, IfOk, IsErr, is_ok, List, length, ap, subst, arith}
+use Rattle.std.proofs.Common.{◌≡◌, ◌∙◌, ◌≤◌, ℕ, ◌+◌, ◌*◌, if◌then◌else◌, Option, Result, Ok, Err, IfOk, IsErr, is_ok, List, length, ap, subst, arith, length-append}
 use Rattle.std.specs.Prelude.{IfSome}
 use Rattle.page_access.specs.declared.geometry.Geometry.{Geometry}
 use Rattle.page_access.specs.Files.{IsWhole, file_of}
 use Rattle.page_access.specs.Pages.{File}
 use Rattle.page_lists.specs.Lists.{IsPartOf, minus}
-use Rattle.page_lists.specs.Table.{Table, Moves, all_moved, moved, unused}
+use Rattle.page_lists.specs.Table.{IsPartition, Table, Moves, all_moved, list_at, moved, unused}
 use Rattle.page_lists.proofs.Counts.{length-minus}
-use Rattle.page_lists.proofs.Uses.{unused-all_moved}
+use Rattle.page_lists.proofs.Uses.{list_at-all_moved, list_at-all_moved-other, unused-all_moved}
 use Rattle.overflow_chain.specs.declared.TheConstants.{OVERFLOW_LIST}
 use Rattle.page_walk.specs.Turns.{ReadsEach}
-use Rattle.page_walk.proofs.Going.{both_told, one_told}
-use Rattle.raw_schema.specs.Schema.{ReadsTwice, schema_pages}
+use Rattle.page_walk.proofs.Going.{always_told, both_told, one_told}
+use Rattle.raw_schema.specs.Schema.{ReadsChains, ReadsTwice, schema_pages}
 use Rattle.raw_schema.specs.declared.TheConstants.{SCHEMA_LIST}
 
 -- no more pages are unused after moves
@@ -81,3 +81,39 @@ pub at_tree : {T E : Type 0} (r : Result T E) (o o' : Option (List ℕ)) (geo : 
     → IfOk r (λ s. IfSome o (λ all. AtTree (file_of all geo) old (Claim s (file_of all geo))))
 at_tree (Err e) o o' geo pages old mid Claim same value moved h = tt
 at_tree (Ok s) o o' geo pages old mid Claim same value moved h = tree_claim o o' geo pages old mid (Claim s) same value moved h
+
+-- the walk leaves the list of overflow pages
+chains_stay : (old new : Table) → IsPartition old → 7 ≤ length old.lists → Moves SCHEMA_LIST old new
+    → length (list_at OVERFLOW_LIST new.lists) ≡ length (list_at OVERFLOW_LIST old.lists)
+chains_stay old new each many moves =
+    ap (λ (t : Table). length (list_at OVERFLOW_LIST t.lists)) moves.all
+    ∙ ap length (list_at-all_moved-other moves.taken SCHEMA_LIST OVERFLOW_LIST old each (omega arith) (omega (arith, many)) moves.were_unused (omega arith) (λ e. omega (arith, e)))
+
+-- reads where no chain was read
+pub no_chains : {T E : Type 0} (r : Result T E) (told : Option (List ℕ)) (geo : Geometry) (old new : Table) (before now more : ℕ) → IsPartition old
+    → 7 ≤ length old.lists → Moves SCHEMA_LIST old new → now ≡ before → ReadsChains told geo old new before now (if is_ok r then 0 else more)
+no_chains r told geo old new before now more each many moves same =
+    always_told (λ all. IsWhole all geo → now + length (list_at OVERFLOW_LIST old.lists)
+    ≤ before + length (list_at OVERFLOW_LIST new.lists) + (if is_ok r then 0 else more)) told
+    (λ all whole. omega (arith, same, chains_stay old new each many moves))
+
+-- the reads of chains alone
+pub chains_read : (told told' : Option (List ℕ)) (geo : Geometry) (old mid new : Table) (before at now more : ℕ) → told' ≡ told → IsPartition old
+    → IsPartition mid → 7 ≤ length old.lists → Moves SCHEMA_LIST old mid → Moves OVERFLOW_LIST mid new → at ≡ before
+    → ReadsEach told' geo mid new at now more → ReadsChains told geo old new before now more
+chains_read told told' geo old mid new before at now more same each each' many tree chains start read =
+    subst (λ (o : Option (List ℕ)). ReadsChains o geo old new before now more) same
+    (one_told (λ all. IsWhole all geo → now + length (unused new) ≤ at + length (unused mid) + more)
+    (λ all. IsWhole all geo → now + length (list_at OVERFLOW_LIST old.lists) ≤ before + length (list_at OVERFLOW_LIST new.lists) + more) told'
+    (λ all h whole.
+    omega (
+      arith,
+      h whole,
+      start,
+      chains_stay old mid each many tree,
+      length-minus (unused mid) chains.taken chains.were_unused,
+      ap length (ap unused chains.all ∙ unused-all_moved chains.taken OVERFLOW_LIST mid (omega arith)),
+      ap (λ (t : Table). length (list_at OVERFLOW_LIST t.lists)) chains.all,
+      ap length (list_at-all_moved chains.taken OVERFLOW_LIST mid each' (omega arith) (omega (arith, many, tree.same_lists)) chains.were_unused),
+      length-append (list_at OVERFLOW_LIST mid.lists) chains.taken,
+    )) read)

@@ -6,7 +6,7 @@ use Rattle.page_access.specs.Files.{IsWhole}
 use Rattle.page_access.specs.Pages.{File}
 use Rattle.page_access.specs.declared.geometry.Geometry.{Geometry}
 use Rattle.page_lists.specs.Lists.{minus}
-use Rattle.page_lists.specs.Table.{Moves, Table, all_moved, unused}
+use Rattle.page_lists.specs.Table.{Moves, Table, all_moved, list_at, unused}
 use Rattle.cell_reader.specs.declared.shapes.Kind.TheVariants as kinds
 use Rattle.overflow_chain.specs.declared.TheConstants.{OVERFLOW_LIST}
 use Rattle.page_walk.specs.Cells.{Outcome, Row}
@@ -71,3 +71,9 @@ pub record SchemaMoves (old new : Table) : Type 0 where
 abbrev pub ReadsTwice : Option (List ℕ) → Geometry → Table → Table → ℕ → ℕ → ℕ → Type 0
 ReadsTwice told geo old new before now more = IfSome told (λ all. IsWhole all geo →
     now + 2 * length (unused new) ≤ before + 2 * length (unused old) + more)
+
+-- there is one read at most for each page that moved to the list of overflow pages, and `more` besides, where the source
+-- tells all pages
+abbrev pub ReadsChains : Option (List ℕ) → Geometry → Table → Table → ℕ → ℕ → ℕ → Type 0
+ReadsChains told geo old new before now more = IfSome told (λ all. IsWhole all geo →
+    now + length (list_at OVERFLOW_LIST old.lists) ≤ before + length (list_at OVERFLOW_LIST new.lists) + more)

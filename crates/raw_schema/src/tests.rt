@@ -2,7 +2,7 @@
 ghost use Rattle.std.specs.Prelude.{◌≡◌, ◌<◌, ◌≤◌, ◌^◌, IfOk, length};
 
 use crate::{RawSchema, SCHEMA_LIST, SchemaKind, SchemaRow, read_schema};
-use page_access::{Geometry, MemSource};
+use page_access::{Geometry, MemSource, PageCache};
 use page_lists::PageTable;
 use page_walk::{CellCause, LISTS, PageNotes, survey};
 use record_core::Value;
@@ -29,9 +29,10 @@ fn schema_of(alloc: Global, pages: u32, bytes: Vec<u8>) -> Result<(RawSchema, Pa
         pages,
     };
     let mut src = MemSource::new(bytes, Vec::new(alloc));
-    let kinds = survey(alloc, &mut src, &geo)?;
+    let mut cache = PageCache::new(alloc, &geo, 2)?;
+    let kinds = survey(alloc, &mut src, &geo, &mut cache)?;
     let mut table = PageTable::new(alloc, pages, LISTS)?;
-    let schema = read_schema(alloc, &mut src, &geo, &kinds, &mut table)?;
+    let schema = read_schema(alloc, &mut src, &geo, &mut cache, &kinds, &mut table)?;
     Ok((schema, table))
 }
 

@@ -3,18 +3,16 @@ use Rattle.std.proofs.Common.{◌≡◌, ◌≤◌, ℕ, ◌+◌, ◌-◌, false
 use Rattle.std.proofs.lemmas.Bool.{or_from}
 use Rattle.std.proofs.lemmas.List.Sums.{sum_by-cons}
 use Rattle.std.specs.List.{list_any}
-use Rattle.varint_core.specs.Varint.{varint_at, IsVarint}
-use Rattle.varint_core.proofs.Laws.{varint_again}
+use Rattle.varint_core.specs.Varint.{varint_at}
+use Rattle.varint_core.proofs.Laws.{varint_again, varint_some}
 use Rattle.record_core.specs.declared.faults.RecordFault.{RecordFault}
 use Rattle.record_core.specs.declared.spans.RecordSpans.{RecordSpans}
 use Rattle.record_core.specs.declared.values.Value.{Value}
 use Rattle.record_core.specs.Record.{Header, and_then, header_at, checked, varints_in, types_in, body_len, bodies_len, is_reserved, values_of, value_of, values_at, record_header, record_of, spans_at, spans_of, Gives}
 use Rattle.record_core.specs.Spelling.{SpellsTypes, SpellsBodies, IsRecord, spans_in}
 use Rattle.record_core.proofs.Bodies.{body_again}
+use Rattle.record_core.proofs.Headers.{ok_is}
 use Rattle.record_core.proofs.Types.{no_bytes, first_type}
-
-varint_some : (bytes : List ℕ) (v : ℕ) → IsVarint bytes v → 1 ≤ length bytes
-varint_some bytes v s = omega (arith, ap length s.parts, length-append s.front (s.last ∷ []))
 
 -- the varints that fill the bytes are read
 pub types_again : (ts : List ℕ) (fuel : ℕ) (bytes : List ℕ) → SpellsTypes bytes ts → length bytes ≤ fuel → varints_in fuel bytes ≡ Some ts
@@ -31,13 +29,13 @@ types_again (t ∷ ts) fuel bytes s le =
     ∙ ap (option_map (λ us. t ∷ us)) (types_again ts f.left s.1 s.4 enough)
 
 -- what reading gives for serial types and their bodies
-record ReadsAll (ts bodies rest : List ℕ) (vs : List Value) : Type 0 where
-  len : bodies_len ts ≡ length bodies
-  known : list_any is_reserved ts ≡ false
-  count : length ts ≡ length vs
-  values : values_of ts (bodies ++ rest) ≡ vs
+pub record ReadsAll (ts bodies rest : List ℕ) (vs : List Value) : Type 0 where
+  pub len : bodies_len ts ≡ length bodies
+  pub known : list_any is_reserved ts ≡ false
+  pub count : length ts ≡ length vs
+  pub values : values_of ts (bodies ++ rest) ≡ vs
 
-bodies_again : (ts : List ℕ) (vs : List Value) (bodies rest : List ℕ) → SpellsBodies bodies ts vs → ReadsAll ts bodies rest vs
+pub bodies_again : (ts : List ℕ) (vs : List Value) (bodies rest : List ℕ) → SpellsBodies bodies ts vs → ReadsAll ts bodies rest vs
 bodies_again [] [] bodies rest s = record { len = sym (ap length s); known = refl; count = refl; values = refl }
 bodies_again [] (v ∷ vs) bodies rest s = absurd s
 bodies_again (t ∷ ts) [] bodies rest s = absurd s
@@ -74,18 +72,20 @@ checked_again payload h few known fits =
     rw (a, known, b) refl
 
 -- the header that a record's bytes spell
-abbrev header_of : {payload : List ℕ} {vs : List Value} → IsRecord payload vs → Header
+abbrev pub header_of : {payload : List ℕ} {vs : List Value} → IsRecord payload vs → Header
 header_of r = record { start = length r.size; size = length r.size + length r.spelled; types = r.types }
 
--- what reading gives for a record with few values
-record Told (payload : List ℕ) (vs : List Value) (r : IsRecord payload vs) : Type 0 where
-  read : record_header payload ≡ Ok (header_of r)
-  values : values_at payload (header_of r) ≡ vs
-  count : length r.types ≡ length vs
-  used : bodies_len r.types ≡ length r.bodies
+-- what reading gives for a record, however many values it has
+pub record Told (payload : List ℕ) (vs : List Value) (r : IsRecord payload vs) : Type 0 where
+  pub header : header_at payload ≡ Ok (header_of r)
+  pub values : values_at payload (header_of r) ≡ vs
+  pub count : length r.types ≡ length vs
+  pub known : list_any is_reserved r.types ≡ false
+  pub used : bodies_len r.types ≡ length r.bodies
+  pub fits : length r.size + length r.spelled + bodies_len r.types ≤ length payload
 
-told : (payload : List ℕ) (vs : List Value) (r : IsRecord payload vs) → length vs ≤ 1996 → Told payload vs r
-told payload vs r few =
+pub told : (payload : List ℕ) (vs : List Value) (r : IsRecord payload vs) → Told payload vs r
+told payload vs r =
     let n = length r.size + length r.spelled in
     let h = header_of r in
     let at : varint_at payload ≡ Some (n, length r.size) = ap varint_at r.parts ∙ varint_again r.size (r.spelled ++ (r.bodies ++ r.rest)) n r.header in
@@ -98,27 +98,42 @@ told payload vs r few =
     let behind : drop n payload ≡ r.bodies ++ r.rest =
     ap (drop n) (r.parts ∙ sym (append_assoc r.size r.spelled (r.bodies ++ r.rest))) ∙ drop_at (r.size ++ r.spelled) (r.bodies ++ r.rest) n (length-append r.size r.spelled) in
     let types : types_in (take (n - length r.size) (drop (length r.size) payload)) ≡ Some r.types = ap types_in types-at ∙ types_again r.types (length r.spelled) r.spelled r.typed (omega arith) in
-    let header : header_at payload ≡ Ok h = header_again payload h at (omega arith) (omega arith) types in
-    let whole : checked payload h ≡ Ok h = checked_again payload h (omega (arith, b.count)) b.known (omega (arith, b.len)) in
     record {
-      read = ap (λ (q : Result Header RecordFault). and_then q (checked payload)) header ∙ whole;
+      header = header_again payload h at (omega arith) (omega arith) types;
       values = ap (λ (x : List ℕ). values_of r.types x) behind ∙ b.values;
       count = b.count;
+      known = b.known;
       used = b.len;
+      fits = omega (arith, b.len);
     }
+
+-- a record with few values has a header without a fault
+read_few : (payload : List ℕ) (vs : List Value) (r : IsRecord payload vs) → length vs ≤ 1996 → record_header payload ≡ Ok (header_of r)
+read_few payload vs r few =
+    let t = told payload vs r in
+    ap (λ (q : Result Header RecordFault). and_then q (checked payload)) t.header
+    ∙ checked_again payload (header_of r) (omega (arith, t.count)) t.known t.fits
+
+-- a payload spells at most one list of values
+pub record_once : (payload : List ℕ) (vs ws : List Value) → IsRecord payload vs → IsRecord payload ws → vs ≡ ws
+record_once payload vs ws r q =
+    let t = told payload vs r in
+    let u = told payload ws q in
+    let same : header_of r ≡ header_of q = ok_is (header_of r) (header_of q) (sym t.header ∙ u.header) in
+    sym t.values ∙ ap (values_at payload) same ∙ u.values
 
 -- a record with few values is read
 pub record_again : (payload : List ℕ) (vs : List Value) → IsRecord payload vs → length vs ≤ 1996 → record_of payload ≡ Ok vs
 record_again payload vs r few =
-    let t = told payload vs r few in
-    ap (λ (q : Result Header RecordFault). and_then q (λ h. Ok (values_at payload h))) t.read ∙ ap (λ (x : List Value). Ok x) t.values
+    let t = told payload vs r in
+    ap (λ (q : Result Header RecordFault). and_then q (λ h. Ok (values_at payload h))) (read_few payload vs r few) ∙ ap (λ (x : List Value). Ok x) t.values
 
 -- so are its sizes
 pub spans_again : (payload : List ℕ) (vs : List Value) (r : IsRecord payload vs) → length vs ≤ 1996 → spans_of payload ≡ Ok (spans_in r)
 spans_again payload vs r few =
-    let t = told payload vs r few in
+    let t = told payload vs r in
     let make : ℕ → ℕ → RecordSpans = λ n m. record { fields = n; header = length r.size + length r.spelled; used = length r.size + length r.spelled + m } in
-    ap (λ (q : Result Header RecordFault). and_then q (λ h. Ok (spans_at h))) t.read
+    ap (λ (q : Result Header RecordFault). and_then q (λ h. Ok (spans_at h))) (read_few payload vs r few)
     ∙ ap (λ n. Ok (make n (bodies_len r.types))) t.count ∙ ap (λ m. Ok (make (length vs) m)) t.used
 
 -- what a call answers that gives what the reading gives

@@ -8,6 +8,7 @@ use Rattle.std.proofs.lemmas.List.{get_or_append_left}
 use Rattle.std.specs.Int.{w64}
 use Rattle.varint_core.specs.Varint.{IsVarint}
 use Rattle.varint_core.specs.Shortest.{spell, varint_len}
+use Rattle.varint_core.proofs.Laws.{varint_some}
 use Rattle.varint_core.proofs.Spelled.{len_is, len_least, least_by, length-spell}
 use Rattle.byteorder.specs.Endian.{big_number, twos_complement, low_bytes}
 use Rattle.byteorder.specs.Numbers.{big_from-lt, length-bytes_high_first}
@@ -134,15 +135,12 @@ bodies_least (t ∷ ts) (v ∷ vs) bytes all s =
 same_least : (t u : ℕ) (first : List ℕ) → IsVarint first t → t ≡ u → length (spell u) ≤ length first
 same_least t u first s e = rw (← e, length-spell t) (least_by first t s s.end)
 
-varint_some : (t : ℕ) (first : List ℕ) → IsVarint first t → 1 ≤ length first
-varint_some t first s = omega (arith, least_by first t s s.end, (len_is t).some)
-
 one_byte : (t : ℕ) → t ≤ 9 → varint_len t ≡ 1
 one_byte t le = let l = len_is t in omega (arith, len_least t (varint_len t) 1 l (lit≤ tt) (omega arith), l.some)
 
 type_least : (t : ℕ) (first body : List ℕ) (v : Value) → IsVarint first t → IsBody t body v → length (spell (serial_type v)) ≤ length first
 type_least t first body Null s i = same_least t 0 first s i.0
-type_least t first body (Whole z) s i = omega (arith, length-spell (whole_type z), one_byte (whole_type z) (whole_small z), varint_some t first s)
+type_least t first body (Whole z) s i = omega (arith, length-spell (whole_type z), one_byte (whole_type z) (whole_small z), varint_some first t s)
 type_least t first body (Real8 b) s i = same_least t 7 first s i.0
 type_least t first body (Text b) s i = same_least t _ first s (i.0 ∙ ap (λ n. 2 * n + 13) (sym (ap length i.1)))
 type_least t first body (Blob b) s i = same_least t _ first s (i.0 ∙ ap (λ n. 2 * n + 12) (sym (ap length i.1)))
@@ -206,8 +204,8 @@ record_shortest vs w all = record {
       let types : n ≤ length r.spelled = types_least r.types vs r.spelled r.bodies r.typed r.filled in
       let bodies : length (bodies_of vs) ≤ length r.bodies = bodies_least r.types vs r.bodies (front_bytes r.bodies r.rest behind) r.filled in
       let size : varint_len (header_len n) ≤ length r.size =
-      size_least n (length r.spelled) (length r.size) few types (varint_some _ r.size r.header) (least_by r.size _ r.header r.header.end) in
+      size_least n (length r.spelled) (length r.size) few types (varint_some r.size _ r.header) (least_by r.size _ r.header r.header.end) in
       let whole : length other ≡ length r.size + (length r.spelled + (length r.bodies + length r.rest)) =
       ap length r.parts ∙ omega (arith, length-append r.size (r.spelled ++ (r.bodies ++ r.rest)), length-append r.spelled (r.bodies ++ r.rest), length-append r.bodies r.rest) in
-      omega (arith, record_len_is vs w, size_is n few);
+      omega (arith, record_len_is vs w.few, size_is n few);
 }

@@ -6,7 +6,8 @@ use Rattle.std.proofs.lemmas.List.Folds.{length-flat_map-take}
 use Rattle.std.proofs.lemmas.List.Sums.{sum_by_more_le, sum_by_more}
 use Rattle.record_core.specs.declared.values.Value.{Value}
 use Rattle.record_core.specs.declared.values.Value.TheVariants.{Null}
-use Rattle.record_core.specs.Shortest.{IsWritable, IsStored, text_len, put_at}
+use Rattle.record_core.specs.Record.{value_len}
+use Rattle.record_core.specs.Shortest.{IsWritable, IsStored, put_at}
 
 -- the pieces of the first values, with one value more
 pub pieces_more : (f : Value → List ℕ) (vs : List Value) (i : ℕ) (v : Value) → i < length vs → v ≡ get_or vs i v → flat_map f (take (i + 1) vs) ≡ flat_map f (take i vs) ++ f v
@@ -24,13 +25,13 @@ pub pieces_room : (f : Value → List ℕ) (vs : List Value) (i : ℕ) (v : Valu
 pieces_room f vs i v lt is = let h = length-flat_map-take f vs i v lt in rw is h
 
 -- no text is longer than all
-pub text_small : (vs : List Value) (i : ℕ) (v : Value) → IsWritable vs → i < length vs → v ≡ get_or vs i v → text_len v < 2 ^ 40
+pub text_small : (vs : List Value) (i : ℕ) (v : Value) → IsWritable vs → i < length vs → v ≡ get_or vs i v → value_len v < 2 ^ 40
 text_small vs i v w lt is =
-    let h : sum_by text_len (take i vs) + text_len (get_or vs i v) ≤ sum_by text_len vs = sum_by_more_le text_len vs i v lt in
-    let same : text_len v ≡ text_len (get_or vs i v) = ap text_len is in omega (arith, w.small)
+    let h : sum_by value_len (take i vs) + value_len (get_or vs i v) ≤ sum_by value_len vs = sum_by_more_le value_len vs i v lt in
+    let same : value_len v ≡ value_len (get_or vs i v) = ap value_len is in omega (arith, w.small)
 
-pub text_sum : (vs : List Value) (i : ℕ) (v : Value) → i < length vs → v ≡ get_or vs i v → sum_by text_len (take (i + 1) vs) ≡ sum_by text_len (take i vs) + text_len v
-text_sum vs i v lt is = sum_by_more text_len vs i v lt ∙ ap (λ (x : Value). sum_by text_len (take i vs) + text_len x) (sym is)
+pub text_sum : (vs : List Value) (i : ℕ) (v : Value) → i < length vs → v ≡ get_or vs i v → sum_by value_len (take (i + 1) vs) ≡ sum_by value_len (take i vs) + value_len v
+text_sum vs i v lt is = sum_by_more value_len vs i v lt ∙ ap (λ (x : Value). sum_by value_len (take i vs) + value_len x) (sym is)
 
 -- ---- pieces written one behind another
 

@@ -8,7 +8,8 @@ use Rattle.varint_core.proofs.Spelled.{len_is, len_exact, spell_is, length-spell
 use Rattle.record_core.specs.declared.values.Value.{Value}
 use Rattle.record_core.specs.declared.values.Value.TheVariants.{Null, Whole, Real8, Text, Blob}
 use Rattle.record_core.specs.Spelling.{IsBody, SpellsTypes, SpellsBodies, IsRecord}
-use Rattle.record_core.specs.Shortest.{IsStored, AllStored, IsWritable, whole_type, width_type, serial_type, body_of, types_of, bodies_of, header_len, record_bytes, text_len}
+use Rattle.record_core.specs.Record.{value_len}
+use Rattle.record_core.specs.Shortest.{IsStored, AllStored, IsWritable, whole_type, width_type, serial_type, body_of, types_of, bodies_of, header_len, record_bytes}
 use Rattle.record_core.proofs.Numbers.{whole_is}
 
 -- a value is spelled by its serial type and body
@@ -34,17 +35,17 @@ whole_small (pos n) =
       | inr e ↦ elim (cases_Bool (eqb n 1)) [ inl f ↦ rw (e, f) (lit≤ tt) | inr f ↦ rw (e, f) (omega (arith, width_small n)) ]
     ]
 
-pub type_small : (v : Value) → text_len v < 2 ^ 40 → serial_type v < 2 ^ 64
+pub type_small : (v : Value) → value_len v < 2 ^ 40 → serial_type v < 2 ^ 64
 type_small Null s = lit< tt
 type_small (Whole z) s = omega (arith, whole_small z)
 type_small (Real8 bytes) s = lit< tt
 type_small (Text bytes) s = omega arith
 type_small (Blob bytes) s = omega arith
 
-types_is : (vs : List Value) → sum_by text_len vs < 2 ^ 40 → SpellsTypes (types_of vs) (map serial_type vs)
+types_is : (vs : List Value) → sum_by value_len vs < 2 ^ 40 → SpellsTypes (types_of vs) (map serial_type vs)
 types_is [] small = refl
 types_is (v ∷ vs) small =
-    let sum = sum_by-cons text_len v vs in
+    let sum = sum_by-cons value_len v vs in
     (spell (serial_type v), types_of vs, refl, spell_is (serial_type v) (type_small v (omega arith)), types_is vs (omega arith))
 
 bodies_is : (vs : List Value) → AllStored vs → SpellsBodies (bodies_of vs) (map serial_type vs) vs
@@ -94,9 +95,9 @@ record_is vs rest w all =
       filled = bodies_is vs all;
     }
 
-pub record_len_is : (vs : List Value) → IsWritable vs → header_len (length (types_of vs)) + length (bodies_of vs) ≡ length (record_bytes vs)
+pub record_len_is : (vs : List Value) → length vs ≤ 4000 → header_len (length (types_of vs)) + length (bodies_of vs) ≡ length (record_bytes vs)
 unfolding record_bytes
 record_len_is vs w =
     let n = length (types_of vs) in
-    let few : n ≤ 36000 = omega (arith, types_short vs, w.few) in
+    let few : n ≤ 36000 = omega (arith, types_short vs, w) in
     omega (arith, length-append (spell (header_len n)) (types_of vs ++ bodies_of vs), length-append (types_of vs) (bodies_of vs), length-spell (header_len n), size_is n few)

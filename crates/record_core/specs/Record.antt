@@ -30,6 +30,14 @@ value_of t body =
     else (if t == 9 then Whole (pos 1)
     else (if t % 2 == 0 then Blob body else Text body)))))
 
+-- bytes that a value holds: all of a real, a text or a blob
+abbrev pub value_len : Value → ℕ
+value_len Null = 0
+value_len (Whole number) = 0
+value_len (Real8 bytes) = length bytes
+value_len (Text bytes) = length bytes
+value_len (Blob bytes) = length bytes
+
 -- the varints that stand one after another and fill the bytes, at most `fuel` of them
 abbrev pub varints_in : ℕ → List ℕ → Option (List ℕ)
 varints_in fuel [] = Some []

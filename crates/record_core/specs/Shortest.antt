@@ -5,7 +5,7 @@ use Rattle.byteorder.specs.Endian.{big_bytes, low_bytes}
 use Rattle.varint_core.specs.Shortest.{spell}
 use Rattle.record_core.specs.declared.values.Value.{Value}
 use Rattle.record_core.specs.declared.values.Value.TheVariants.{Null, Whole, Real8, Text, Blob}
-use Rattle.record_core.specs.Record.{body_len}
+use Rattle.record_core.specs.Record.{body_len, value_len}
 
 -- how far a number is from 0, or from -1 where it is below 0
 abbrev pub steps : ℤ → ℕ
@@ -62,18 +62,10 @@ unfoldable pub record_bytes : List Value → List ℕ
 record_bytes values =
     spell (header_len (length (types_of values))) ++ (types_of values ++ bodies_of values)
 
--- the bytes of a text or a blob
-abbrev pub text_len : Value → ℕ
-text_len Null = 0
-text_len (Whole number) = 0
-text_len (Real8 bytes) = 0
-text_len (Text bytes) = length bytes
-text_len (Blob bytes) = length bytes
-
 -- values that a record can be written of
 pub record IsWritable (values : List Value) : Type 0 where
   pub few : length values ≤ 4000
-  pub small : sum_by text_len values < 2 ^ 40
+  pub small : sum_by value_len values < 2 ^ 40
 
 -- a list with a piece written over it from a place on
 abbrev pub put_at : List ℕ → ℕ → List ℕ → List ℕ

@@ -10,10 +10,10 @@ mod writing;
 
 pub use faults::RecordFault;
 pub use fields::{FieldSlice, Fields};
-pub use reading::read_record;
+pub use reading::{a_payload_spells_one_record, read_record};
 pub use spans::{RecordSpans, record_spans};
 pub use values::{Bytes, Value};
-pub use writing::{a_record_is_read_back, record_len, write_record};
+pub use writing::{a_record_is_read_back, record_len, record_size, write_record};
 
 #[cfg(test)]
 mod tests;

@@ -28,6 +28,11 @@ pub fn read_record(alloc: Global, payload: &[u8]) -> Result<Vec<Value>, RecordFa
     decode(alloc, payload)
 }
 
+/// A payload spells the values of one record at most, however many they are.
+pub fn a_payload_spells_one_record()
+    ensures { (s : List ℕ) (vs ws : List Value) → IsRecord s vs → IsRecord s ws → vs ≡ ws }
+{}
+
 // The values of the record, or the first fault.
 fn decode(alloc: Global, payload: &[u8]) -> Result<Vec<Value>, RecordFault>
     ensures exact { Gives (λ v. v.items) result (record_of payload.now) }

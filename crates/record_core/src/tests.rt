@@ -242,3 +242,20 @@ fn the_size_of_a_header_counts_its_own_bytes(rt: HostRuntime) {
     };
     assert!(rt; is_front(&fields, &wanted));
 }
+
+// The length of a record of 4,000 texts of 100 bytes: types 213 in two bytes each, and so a header of
+// 2 + 8,000 bytes.
+fn size_of_4000(text: &Value) -> u128 {
+    let fields = Repeated {
+        value: text,
+        count: 4000,
+    };
+    record_size(&fields)
+}
+
+#[test]
+fn a_long_record_has_its_length(rt: HostRuntime) -> Result<(), Fail> {
+    let text = Value::Text(Bytes::of(vec![in rt.alloc(); b'a'; 100].ok().ok_or("a text")?));
+    assert_eq!(rt; size_of_4000(&text), 408_002);
+    Ok(())
+}

@@ -27,6 +27,13 @@ impl Bytes {
         })
     }
 
+    /// These bytes. Takes no memory.
+    pub fn of(items: Vec<u8>) -> Bytes
+        ensures { result ≡ items.items }
+    {
+        Bytes { items }
+    }
+
     pub fn as_slice(&self) -> &[u8]
         ensures { result.now ≡ self.now }
     {

@@ -1,10 +1,10 @@
 //! Records in their shortest spelling.
 
-ghost use Rattle.std.specs.Prelude.{◌≡◌, ◌≤◌, ◌<◌, ◌+◌, ◌^◌, ◌++◌, ℕ, List, length, take, drop};
+ghost use Rattle.std.specs.Prelude.{◌≡◌, ◌≤◌, ◌<◌, ◌+◌, ◌*◌, ◌^◌, ◌++◌, ℕ, List, length, sum_by, take, drop};
 ghost use Rattle.varint_core.specs.Shortest.{spell};
-ghost use Rattle.record_core.specs.Shortest.{IsStored, AllStored, IsWritable, steps, width_type, whole_type, serial_type, body_of, types_of, bodies_of, header_len, record_bytes, text_len, put_at};
+ghost use Rattle.record_core.specs.Shortest.{IsStored, AllStored, IsWritable, steps, width_type, whole_type, serial_type, body_of, types_of, bodies_of, header_len, record_bytes, put_at};
 ghost use Rattle.record_core.specs.Spelling.{IsRecord, IsShortestRecord};
-ghost use Rattle.record_core.specs.Record.{record_of};
+ghost use Rattle.record_core.specs.Record.{record_of, value_len};
 ghost use Rattle.record_core.specs.declared.values.Value.{Value};
 
 use crate::fields::Fields;
@@ -19,7 +19,18 @@ pub fn record_len<F: Fields>(values: &F) -> usize
     requires { IsWritable (F.values values.now) }
     ensures value { result ≡ length (record_bytes (F.values values.now)) }
 {
-    header_len(types_len(values)) + bodies_len(values)
+    record_size(values) as usize
+}
+
+/// The length of the shortest record of at most 4,000 values, however long they are. Takes no memory.
+pub fn record_size<F: Fields>(values: &F) -> u128
+    requires { length (F.values values.now) ≤ 4000 }
+    ensures value { result ≡ length (record_bytes (F.values values.now)) }
+    ensures most { let vs = F.values values.now in
+        result ≤ sum_by value_len vs + 8 * length vs + 36003 }
+    ensures fits { result < 2 ^ 80 }
+{
+    header_len(types_len(values)) as u128 + bodies_len(values)
 }
 
 /// Writes the shortest record of the values to the front, leaves the rest, and gives its length
@@ -113,16 +124,15 @@ fn whole_type(number: i64) -> u64
 }
 
 // The serial type of a value.
-fn serial_type(value: &Value) -> u64
-    requires { text_len value.now < 2 ^ 40 }
+fn serial_type(value: &Value) -> u128
     ensures { result ≡ serial_type value.now }
 {
     match value {
         Value::Null => 0,
-        Value::Whole(number) => whole_type(*number),
+        Value::Whole(number) => u128::from(whole_type(*number)),
         Value::Real8(_) => 7,
-        Value::Text(bytes) => 2 * bytes.as_slice().len() as u64 + 13,
-        Value::Blob(bytes) => 2 * bytes.as_slice().len() as u64 + 12,
+        Value::Text(bytes) => 2 * bytes.as_slice().len() as u128 + 13,
+        Value::Blob(bytes) => 2 * bytes.as_slice().len() as u128 + 12,
     }
 }
 
@@ -176,7 +186,7 @@ fn slice_len(bytes: &[u8]) -> usize
 // The length of the body of a value.
 fn body_size(value: &Value) -> usize
     ensures value { result ≡ length (body_of value.now) }
-    ensures bound { result ≤ text_len value.now + 8 }
+    ensures bound { result ≤ value_len value.now + 8 }
 {
     match value {
         Value::Null => 0,
@@ -186,40 +196,54 @@ fn body_size(value: &Value) -> usize
     }
 }
 
+// The length of the serial type of a value.
+fn type_len(value: &Value) -> usize
+    ensures value { result ≡ length (spell (serial_type value.now)) }
+    ensures short { result ≤ 9 }
+{
+    let kind = serial_type(value);
+    if kind < 1 << 56 {
+        varint_len(kind as u64)
+    } else {
+        9
+    }
+}
+
 // The length of the serial types of values.
 fn types_len<F: Fields>(values: &F) -> usize
-    requires { IsWritable (F.values values.now) }
+    requires { length (F.values values.now) ≤ 4000 }
     ensures value { result ≡ length (types_of (F.values values.now)) }
     ensures short { result ≤ 36000 }
 {
     let mut total = 0;
     for i in 0..values.count() {
-        total += varint_len(serial_type(values.field(i)));
+        total += type_len(values.field(i));
     }
     total
 }
 
 // The length of the bodies of values.
-fn bodies_len<F: Fields>(values: &F) -> usize
-    requires { IsWritable (F.values values.now) }
+fn bodies_len<F: Fields>(values: &F) -> u128
+    requires { length (F.values values.now) ≤ 4000 }
     ensures value { result ≡ length (bodies_of (F.values values.now)) }
-    ensures short { result ≤ 2 ^ 41 }
+    ensures most { let vs = F.values values.now in result ≤ sum_by value_len vs + 8 * length vs }
+    ensures fits { result ≤ 2 ^ 76 }
 {
-    let mut total = 0;
+    let mut total: u128 = 0;
     for i in 0..values.count() {
-        total += body_size(values.field(i));
+        total += body_size(values.field(i)) as u128;
     }
     total
 }
 
 // Puts the serial type of a value at a place, and gives the place behind it.
 fn put_type(to: &mut [u8], at: usize, value: &Value) -> usize
-    requires short { text_len value.now < 2 ^ 40 }
+    requires short { value_len value.now < 2 ^ 40 }
     requires room { at + length (spell (serial_type value.now)) ≤ length to.old }
     ensures end { result ≡ at + length (spell (serial_type value.now)) }
     ensures after { to.new ≡ put_at to.old at (spell (serial_type value.now)) }
 {
-    put(to, at, write_varint(serial_type(value)).as_slice())
+    put(to, at, write_varint(serial_type(value) as u64).as_slice())
 }
 
 // Puts the serial types of values at a place, and gives the place behind them.

@@ -4,7 +4,7 @@ use Rattle.std.specs.Prelude.{codes}
 use Rattle.std.specs.Fmt.{signed_decimal}
 use Rattle.page_access.specs.Outside.{Writes}
 use Rattle.page_access.proofs.Gains.{WroteFront, front_as, front_start, writes_same}
-use Rattle.dbdata_list.specs.Text.{newline, place_text, value_text}
+use Rattle.line_text.specs.Text.{newline, place_text, value_text}
 use Rattle.raw_schema.specs.declared.rows.SchemaKind.{SchemaKind}
 use Rattle.raw_schema.specs.Spelling.{kind_text}
 use Rattle.report_text.specs.Lines.{line_text, sql_value}

@@ -4,13 +4,13 @@ ghost use Rattle.std.specs.Fmt.{signed_decimal};
 ghost use Rattle.arrayvec.specs.ArrayVec.{array_vec_len};
 ghost use Rattle.hex.specs.Hex.{encode_lower};
 ghost use Rattle.page_access.specs.Outside.{KeepsSink, Writes};
-ghost use Rattle.dbdata_list.specs.Text.{newline, place_text, value_text};
+ghost use Rattle.line_text.specs.Text.{newline, place_text, value_text};
 ghost use Rattle.raw_schema.specs.Spelling.{kind_text};
 ghost use Rattle.report_text.specs.Lines.{line_text, sql_value};
 ghost use Rattle.report_text.specs.declared.ReportLine.TheVariants.{BadRow};
 
-use dbdata_list::{Line, add, place, put_hex};
 use itoa::Buffer;
+use line_text::{Line, add, place, put_hex};
 use page_access::{Failed, Sink};
 use raw_schema::SchemaKind;
 use record_core::Bytes;
@@ -24,7 +24,7 @@ pub(crate) fn put_start<R: Sink>(
 ) -> Result<(), Failed>
     ensures writes { Writes (R.bytes to.old) (R.bytes to.new) (R.faults to.old) (R.faults to.new)
         (place_text page cell ++ (kind_text kind ++ codes " ")) result }
-    ensures kept { KeepsSink R.created R.faults to.old to.new }
+    ensures kept { KeepsSink R.created R.finished R.faults to.old to.new }
 {
     let mut line = place(page, cell);
     add(&mut line, word(kind).as_bytes());
@@ -49,7 +49,7 @@ pub(crate) fn put_end<R: Sink>(to: &mut R, root: i64, sql: &Option<Bytes>) -> Re
     ensures writes { Writes (R.bytes to.old) (R.bytes to.new) (R.faults to.old) (R.faults to.new)
         (signed_decimal root ++ (codes " " ++ (value_text (sql_value sql.now) ++ newline)))
         result }
-    ensures kept { KeepsSink R.created R.faults to.old to.new }
+    ensures kept { KeepsSink R.created R.finished R.faults to.old to.new }
 {
     let mut line = Line::new();
     add(&mut line, Buffer::new().format(root).as_bytes());
@@ -64,7 +64,7 @@ fn put_text<R: Sink>(to: &mut R, line: Line, text: &[u8]) -> Result<(), Failed>
     requires { array_vec_len line ≤ 20 }
     ensures writes { Writes (R.bytes to.old) (R.bytes to.new) (R.faults to.old) (R.faults to.new)
         (line.items ++ (codes " text:" ++ (encode_lower text.now ++ newline))) result }
-    ensures kept { KeepsSink R.created R.faults to.old to.new }
+    ensures kept { KeepsSink R.created R.finished R.faults to.old to.new }
 {
     put_behind(to, line, b" text:")?;
     put_hex(to, text)?;
@@ -76,7 +76,7 @@ fn put_behind<R: Sink>(to: &mut R, mut line: Line, word: &[u8]) -> Result<(), Fa
     requires { array_vec_len line + length word.now ≤ 128 }
     ensures writes { Writes (R.bytes to.old) (R.bytes to.new) (R.faults to.old) (R.faults to.new)
         (line.items ++ word.now) result }
-    ensures kept { KeepsSink R.created R.faults to.old to.new }
+    ensures kept { KeepsSink R.created R.finished R.faults to.old to.new }
 {
     add(&mut line, word);
     to.put(line.as_slice())
@@ -87,7 +87,7 @@ fn put_behind<R: Sink>(to: &mut R, mut line: Line, word: &[u8]) -> Result<(), Fa
 pub(crate) fn put_bad<R: Sink>(to: &mut R, page: u64, cell: u64) -> Result<(), Failed>
     ensures writes { Writes (R.bytes to.old) (R.bytes to.new) (R.faults to.old) (R.faults to.new)
         (line_text (BadRow page cell)) result }
-    ensures kept { KeepsSink R.created R.faults to.old to.new }
+    ensures kept { KeepsSink R.created R.finished R.faults to.old to.new }
 {
     put_behind(to, place(page, cell), b"bad\n")
 }

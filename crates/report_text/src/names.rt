@@ -6,7 +6,7 @@ ghost use Rattle.hex.specs.Hex.{encode_lower};
 ghost use Rattle.page_access.specs.Outside.{KeepsSink, Writes};
 ghost use Rattle.report_text.specs.Names.{esc, esc_byte, is_plain};
 
-use dbdata_list::{Line, add};
+use line_text::{Line, add};
 use page_access::{Failed, Sink};
 
 // Bytes of a name that are put in one call of the sink: each is 3 bytes of a line at most.
@@ -16,17 +16,17 @@ const CHUNK: usize = 32;
 pub(crate) fn put_name<R: Sink>(to: &mut R, name: &[u8]) -> Result<(), Failed>
     ensures writes { Writes (R.bytes to.old) (R.bytes to.new) (R.faults to.old) (R.faults to.new)
         (esc name.now ++ codes " ") result }
-    ensures kept { KeepsSink R.created R.faults to.old to.new }
+    ensures kept { KeepsSink R.created R.finished R.faults to.old to.new }
 {
     put_esc(to, name)?;
     to.put(b" ")
 }
 
-// Puts a name.
-fn put_esc<R: Sink>(to: &mut R, name: &[u8]) -> Result<(), Failed>
+/// Puts a name.
+pub(crate) fn put_esc<R: Sink>(to: &mut R, name: &[u8]) -> Result<(), Failed>
     ensures writes { Writes (R.bytes to.old) (R.bytes to.new) (R.faults to.old) (R.faults to.new)
         (esc name.now) result }
-    ensures kept { KeepsSink R.created R.faults to.old to.new }
+    ensures kept { KeepsSink R.created R.finished R.faults to.old to.new }
 {
     if name.is_empty() {
         return to.put(b"\\");
@@ -38,7 +38,7 @@ fn put_esc<R: Sink>(to: &mut R, name: &[u8]) -> Result<(), Failed>
 fn put_bytes<R: Sink>(to: &mut R, bytes: &[u8]) -> Result<(), Failed>
     ensures writes { Writes (R.bytes to.old) (R.bytes to.new) (R.faults to.old) (R.faults to.new)
         (flat_map esc_byte bytes.now) result }
-    ensures kept { KeepsSink R.created R.faults to.old to.new }
+    ensures kept { KeepsSink R.created R.finished R.faults to.old to.new }
 {
     let mut rest = bytes;
     while rest.len() > CHUNK {
@@ -54,7 +54,7 @@ fn put_chunk<R: Sink>(to: &mut R, bytes: &[u8]) -> Result<(), Failed>
     requires { length bytes.now ≤ 32 }
     ensures writes { Writes (R.bytes to.old) (R.bytes to.new) (R.faults to.old) (R.faults to.new)
         (flat_map esc_byte bytes.now) result }
-    ensures kept { KeepsSink R.created R.faults to.old to.new }
+    ensures kept { KeepsSink R.created R.finished R.faults to.old to.new }
 {
     to.put(chunk(bytes).as_slice())
 }

@@ -1,6 +1,8 @@
 //! The lines are written by hand (docs/TEXTS.md, "Listings").
-use crate::{ReportLine, put_line};
+use crate::{ReportLine, UnreadCause, put_line, put_script};
 use page_access::{Failed, MemFail, MemSink};
+use page_size::Origin;
+use page_walk::{CellCause, Place};
 use raw_schema::SchemaKind;
 use record_core::Bytes;
 use std::alloc::{AllocError, Global};
@@ -71,5 +73,70 @@ fn a_call_of_the_sink_that_fails_leaves_a_front_of_the_line(rt: HostRuntime) -> 
         assert_eq!(rt; put_line(&line, &mut to), Err(Failed));
         assert!(rt; ROW_OF_T.starts_with(to.bytes()));
     }
+    Ok(())
+}
+
+// What the line is.
+fn written(alloc: Global, line: &ReportLine) -> Result<Vec<u8>, Fail> {
+    let mut to = MemSink::new(alloc, 200, Vec::new(alloc))?;
+    put_line(line, &mut to)?;
+    Ok(Vec::from_slice(alloc, to.bytes())?)
+}
+
+#[test]
+fn a_report_has_a_line_for_each_thing_that_it_names(rt: HostRuntime) -> Result<(), Fail> {
+    let alloc = rt.alloc();
+    let line = ReportLine::Geometry {
+        size: 512,
+        reserved: 0,
+        pages: 4,
+        origin: Origin::Header,
+    };
+    assert_eq!(rt;
+        written(alloc, &line)?.as_slice(),
+        b"geometry 512 0 4 header\n".as_slice()
+    );
+    let line = ReportLine::Cells {
+        page: 2,
+        count: 299,
+        first: 1,
+        cause: CellCause::Overlap,
+    };
+    assert_eq!(rt;
+        written(alloc, &line)?.as_slice(),
+        b"cells 2 299 1 overlap\n".as_slice()
+    );
+    let line = ReportLine::Clash {
+        name: Bytes::copy_of(alloc, b"t")?,
+        page: 4,
+        cell: 0,
+        earlier_page: 3,
+        earlier_cell: 1,
+        key: 0,
+    };
+    assert_eq!(rt;
+        written(alloc, &line)?.as_slice(),
+        b"clash t 4 0 3 1 0\n".as_slice()
+    );
+    let line = ReportLine::Unread {
+        name: Bytes::copy_of(alloc, b"v")?,
+        rows: 2,
+        pages: 1,
+        cause: UnreadCause::Unordered(Place { page: 2, cell: 0 }),
+    };
+    assert_eq!(rt;
+        written(alloc, &line)?.as_slice(),
+        b"unread v 2 1 unordered 2 0\n".as_slice()
+    );
+    let line = ReportLine::Written { pages: 3 };
+    assert_eq!(rt; written(alloc, &line)?.as_slice(), b"result 3\n".as_slice());
+    Ok(())
+}
+
+#[test]
+fn a_text_of_the_script_ends_with_a_line_of_its_own(rt: HostRuntime) -> Result<(), Fail> {
+    let mut to = MemSink::new(rt.alloc(), 100, Vec::new(rt.alloc()))?;
+    assert_eq!(rt; put_script(b"CREATE VIEW v AS SELECT 1", &mut to), Ok(()));
+    assert_eq!(rt; to.bytes(), b"CREATE VIEW v AS SELECT 1\n;\n".as_slice());
     Ok(())
 }

@@ -2,7 +2,7 @@
 use Rattle.std.specs.Prelude.{ℕ, List, ◌++◌, codes, decimal, Result, Ok, Err}
 use Rattle.command_line.specs.declared.words.WordsFault.{WordsFault}
 use Rattle.command_line.specs.declared.words.WordsFault.TheVariants as words
-use Rattle.dbdata_list.specs.Text.{newline}
+use Rattle.line_text.specs.Text.{newline}
 use Rattle.dbdata_list.specs.declared.faults.ListFault.{ListFault}
 use Rattle.dbdata_list.specs.declared.faults.ListFault.TheVariants as list
 use Rattle.page_access.specs.declared.outside.ReadFault.{ReadFault}

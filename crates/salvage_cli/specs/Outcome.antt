@@ -1,5 +1,5 @@
 -- What a run of the program leaves, by its status (docs/TEXTS.md, "Statuses").
-use Rattle.std.specs.Prelude.{◌≡◌, ◌⊎◌, ℕ, List, Option, Some, None, Result, Ok, Err, IfSome, ⊤}
+use Rattle.std.specs.Prelude.{◌≡◌, ◌⊎◌, ℕ, Bool, false, List, Option, Some, None, Result, Ok, Err, IfSome, IsOk, ⊤}
 use Rattle.page_access.specs.Outside.{Gains, GainsPrefix, Rose}
 use Rattle.command_line.specs.Parts.{Asked, Word}
 use Rattle.salvage_cli.specs.Answers.{fault_line, status_of}
@@ -35,9 +35,15 @@ abbrev pub IsListed : Result (List ℕ) Fault → Option (List ℕ) → Option (
 IsListed (Ok text) old new = Gains old new text
 IsListed (Err fault) old new = ⊥
 
--- a status is the one of what is wanted, or that of a fault of the outside, or of want of memory
+-- a status is the one of what is wanted; or that of a fault of the input, or of the report where a listing is
+-- wanted, or of want of memory
 abbrev pub IsStatusOf : Result (List ℕ) Fault → ℕ → Type 0
-IsStatusOf wanted status = (status ≡ status_of wanted) ⊎ ((status ≡ 3) ⊎ ((status ≡ 9) ⊎ (status ≡ 11)))
+IsStatusOf wanted status =
+    (status ≡ status_of wanted) ⊎ ((status ≡ 3) ⊎ (((status ≡ 9) × IsOk wanted) ⊎ (status ≡ 11)))
+
+-- a sink is not finished, or as finished as it was
+abbrev pub StaysUnfinished : Bool → Bool → Type 0
+StaysUnfinished old new = (new ≡ false) ⊎ (new ≡ old)
 
 -- what an answer says on the stream for errors: nothing, or its line, or a front of the line where a call failed
 abbrev pub Says : {A : Type 0} → Result A Fault → Option (List ℕ) → Option (List ℕ) → ℕ → ℕ → Type 0

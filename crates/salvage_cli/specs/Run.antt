@@ -9,11 +9,16 @@ abbrev pub text_of : Result (List ℕ) Fault → List ℕ
 text_of (Ok text) = text
 text_of (Err fault) = []
 
+-- a fault of the report comes where a listing is wanted alone
+abbrev pub EndsListing : Result (List ℕ) Fault → Option (List ℕ) → Option (List ℕ) → Type 0
+EndsListing (Ok text) old new = GainsPrefix old new text
+EndsListing (Err fault) old new = ⊥
+
 -- what an error says of what was wanted, and what it leaves in the report
 abbrev pub EndsWanted : Result (List ℕ) Fault → Option (List ℕ) → Option (List ℕ) → Fault → Type 0
 EndsWanted wanted old new Usage = ⊥
 EndsWanted wanted old new InputFault = GainsPrefix old new (text_of wanted)
-EndsWanted wanted old new ReportFault = GainsPrefix old new (text_of wanted)
+EndsWanted wanted old new ReportFault = EndsListing wanted old new
 EndsWanted wanted old new Memory = GainsPrefix old new (text_of wanted)
 EndsWanted wanted old new fault = wanted ≡ Err fault
 

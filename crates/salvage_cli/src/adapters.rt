@@ -9,7 +9,9 @@ use std::io::Write;
 use std::os::unix::fs::FileExt;
 use std::rt::Files;
 
-/// A file that is opened by name and read at any place.
+/// A regular file that is opened by name and read at any place. A pipe, a device, a folder, or a file
+/// that has bytes and tells the length 0, as those of /proc do, cannot be attached: what they hold has no
+/// length that could be told before it is read.
 #[derive(Drop)]
 pub struct FileSource<'a, R: Files>
 where
@@ -55,13 +57,13 @@ where
     ghost reads = { λ s. s.reads };
 
     fn attach(&mut self, name: String) -> Result<(), Failed> {
-        match fs::open(self.rt, name.as_str()) {
-            Ok(file) => {
+        match open_regular(self.rt, name.as_str()) {
+            Some(file) => {
                 self.file = Some(file);
                 self.name = Some(name);
                 Ok(())
             }
-            Err(_) => {
+            None => {
                 self.faults = self.faults.saturating_add(1);
                 Err(Failed)
             }
@@ -88,6 +90,36 @@ where
         self.faults = self.faults.saturating_add(1);
         Err(Failed)
     }
+}
+
+// Opens a file, where it is a regular one that tells its length; whether it is one is tested first, since
+// a pipe that nobody writes to would be waited for.
+fn open_regular<R: Files>(rt: &R, path: &str) -> Option<R::File>
+where
+    R::File: FileExt + OpenFile + Drop,
+{
+    let Ok(kind) = fs::metadata(rt, path) else {
+        return None;
+    };
+    if !kind.is_file() {
+        return None;
+    }
+    let Ok(file) = fs::open(rt, path) else {
+        return None;
+    };
+    if tells_its_length(&file) {
+        Some(file)
+    } else {
+        None
+    }
+}
+
+// Whether a file that tells the length 0 has no bytes.
+fn tells_its_length<F: FileExt + OpenFile>(file: &F) -> bool {
+    let Ok(metadata) = file.metadata() else {
+        return false;
+    };
+    metadata.len() > 0 || matches!(file.read_at(&mut [0], 0), Ok(0))
 }
 
 /// A stream that is written to, as standard output behind a buffer. A name that it is given changes
@@ -182,3 +214,6 @@ impl Sink for NoSink {
         Err(Failed)
     }
 }
+
+#[cfg(test)]
+mod tests;

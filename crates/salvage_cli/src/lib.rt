@@ -14,4 +14,6 @@ pub use faults::Fault;
 pub use runs::run;
 
 #[cfg(test)]
+mod order_tests;
+#[cfg(test)]
 mod tests;

@@ -2,12 +2,12 @@
 ghost use Rattle.std.specs.Prelude.{◌≡◌, ◌≤◌, ◌+◌, ◌++◌, length, decimal};
 ghost use Rattle.arrayvec.specs.ArrayVec.{array_vec_len};
 ghost use Rattle.page_access.specs.Outside.{KeepsSink, Writes};
-ghost use Rattle.dbdata_list.specs.Text.{newline};
+ghost use Rattle.line_text.specs.Text.{newline};
 ghost use Rattle.salvage_cli.specs.Answers.{fault_line, fault_text};
 
 use crate::faults::Fault;
-use dbdata_list::{Line, add};
 use itoa::Buffer;
+use line_text::{Line, add};
 use page_access::{Failed, Sink};
 
 /// Puts the line of a refusal.
@@ -15,7 +15,7 @@ use page_access::{Failed, Sink};
 pub(crate) fn put_fault<E: Sink>(to: &mut E, fault: &Fault) -> Result<(), Failed>
     ensures writes { Writes (E.bytes to.old) (E.bytes to.new) (E.faults to.old) (E.faults to.new)
         (fault_line fault.now) result }
-    ensures kept { KeepsSink E.created E.faults to.old to.new }
+    ensures kept { KeepsSink E.created E.finished E.faults to.old to.new }
 {
     put_named(to, b"db_salvage: ", fault)
 }
@@ -25,7 +25,7 @@ fn put_named<E: Sink>(to: &mut E, name: &[u8], fault: &Fault) -> Result<(), Fail
     requires { length name.now ≤ 12 }
     ensures writes { Writes (E.bytes to.old) (E.bytes to.new) (E.faults to.old) (E.faults to.new)
         (name.now ++ (fault_text fault.now ++ newline)) result }
-    ensures kept { KeepsSink E.created E.faults to.old to.new }
+    ensures kept { KeepsSink E.created E.finished E.faults to.old to.new }
 {
     let mut line = Line::new();
     add(&mut line, name);

@@ -1,11 +1,12 @@
 //! A command, done: its input is listed in the report.
-ghost use Rattle.std.specs.Prelude.{◌≡◌, Some, true, IfErr, IfSome, IsErrOf, OnOk};
+ghost use Rattle.std.specs.Prelude.{◌≡◌, Some, true, IfErr, IfSome, IsErrOf, OnErr, OnOk};
 ghost use Rattle.page_access.specs.Files.{file_of};
 ghost use Rattle.page_access.specs.Outside.{HasCauseOf, KeepsSink, KeepsSource, WritesOf};
 ghost use Rattle.command_line.specs.Command.{view};
 ghost use Rattle.command_line.specs.Parts.{HasOptions};
 ghost use Rattle.page_size.specs.Rule.{finding};
 ghost use Rattle.salvage_cli.specs.Wanted.{listing_of, refused_by, text_by, wanted};
+ghost use Rattle.salvage_cli.specs.Outcome.{StaysUnfinished};
 ghost use Rattle.salvage_cli.specs.Run.{GivesWanted, HasNumbers, IsEarly, IsLate};
 
 use crate::faults::Fault;
@@ -35,6 +36,9 @@ pub(crate) fn list<S: Source, R: Sink>(
     ensures numbers { HasNumbers result }
     ensures source { HasCauseOf Fault.InputFault (S.faults src.old) (S.faults src.new) result }
     ensures sink { HasCauseOf Fault.ReportFault (R.faults report.old) (R.faults report.new) result }
+    ensures report_name { R.created report.new ≡ R.created report.old }
+    ensures unfinished { OnErr result (StaysUnfinished (R.finished report.old)
+        (R.finished report.new)) }
 {
     attach(alloc, request, src)?;
     match find_pages(alloc, request, src)? {
@@ -60,6 +64,9 @@ fn put_found<S: Source, R: Sink>(
     ensures numbers { HasNumbers result }
     ensures source { HasCauseOf Fault.InputFault (S.faults src.old) (S.faults src.new) result }
     ensures sink { HasCauseOf Fault.ReportFault (R.faults report.old) (R.faults report.new) result }
+    ensures report_name { R.created report.new ≡ R.created report.old }
+    ensures unfinished { OnErr result (StaysUnfinished (R.finished report.old)
+        (R.finished report.new)) }
     ensures kept { KeepsSource S.bytes S.attached S.faults S.reads src.old src.new }
 {
     if is_refused(mode, found) {
@@ -103,6 +110,9 @@ fn put_all<S: Source, R: Sink>(
     ensures finished { OnOk result (R.finished report.new ≡ true) }
     ensures source { HasCauseOf Fault.InputFault (S.faults src.old) (S.faults src.new) result }
     ensures sink { HasCauseOf Fault.ReportFault (R.faults report.old) (R.faults report.new) result }
+    ensures report_name { R.created report.new ≡ R.created report.old }
+    ensures unfinished { OnErr result (StaysUnfinished (R.finished report.old)
+        (R.finished report.new)) }
     ensures kept { KeepsSource S.bytes S.attached S.faults S.reads src.old src.new }
     ensures late { IsLate result }
 {
@@ -124,7 +134,7 @@ fn put_listing<S: Source, R: Sink>(
     ensures source { HasCauseOf Fault.InputFault (S.faults src.old) (S.faults src.new) result }
     ensures sink { HasCauseOf Fault.ReportFault (R.faults report.old) (R.faults report.new) result }
     ensures kept { KeepsSource S.bytes S.attached S.faults S.reads src.old src.new }
-    ensures kept_sink { KeepsSink R.created R.faults report.old report.new }
+    ensures kept_sink { KeepsSink R.created R.finished R.faults report.old report.new }
     ensures late { IsLate result }
 {
     match mode {
@@ -140,6 +150,9 @@ fn finish<R: Sink>(report: &mut R) -> Result<(), Fault>
     ensures finished { OnOk result (R.finished report.new ≡ true) }
     ensures only { IfErr result (λ fault. fault ≡ Fault.ReportFault) }
     ensures sink { HasCauseOf Fault.ReportFault (R.faults report.old) (R.faults report.new) result }
+    ensures report_name { R.created report.new ≡ R.created report.old }
+    ensures unfinished { OnErr result (StaysUnfinished (R.finished report.old)
+        (R.finished report.new)) }
     ensures bytes { R.bytes report.new ≡ R.bytes report.old }
 {
     match report.finish() {

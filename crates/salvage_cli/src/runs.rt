@@ -1,10 +1,10 @@
 //! The top call.
-ghost use Rattle.std.specs.Prelude.{◌≡◌, ◌⊎◌, ◌<◌, ◌^◌, length, None, Some, true, map, string_bytes, IfSome, OnOk, IsErrOf, IsOk};
-ghost use Rattle.page_access.specs.Outside.{GainsPrefix, HasCauseOf, Rose};
+ghost use Rattle.std.specs.Prelude.{◌≡◌, ◌⊎◌, ◌<◌, ◌^◌, length, None, Some, true, map, string_bytes, IfSome, OnErr, OnOk, IsErrOf, IsOk};
+ghost use Rattle.page_access.specs.Outside.{GainsPrefix, HasCauseOf, KeepsSink, Rose};
 ghost use Rattle.command_line.specs.Command.{command_of};
 ghost use Rattle.salvage_cli.specs.Answers.{status_of};
 ghost use Rattle.salvage_cli.specs.Run.{HasNumbers, IsEarly, text_of};
-ghost use Rattle.salvage_cli.specs.Outcome.{Answered, GivesCommand, HasNoPages, IsAttached, IsEarlyStatus, IsListed, IsNoCommand, IsStatusOf, IsUtf16, Says, wanted_of};
+ghost use Rattle.salvage_cli.specs.Outcome.{Answered, GivesCommand, HasNoPages, IsAttached, IsEarlyStatus, IsListed, IsNoCommand, IsStatusOf, IsUtf16, Says, StaysUnfinished, wanted_of};
 
 use crate::faults::Fault;
 use crate::lines::put_fault;
@@ -52,6 +52,8 @@ pub fn run<S: Source, O: Sink, T: Sink, R: Sink, E: Sink>(
         (λ all. result ≡ 12 → IsUtf16 (wanted_of (command_of (map string_bytes words.now)) all)) }
     ensures input_fault { result ≡ 3 → Rose (S.faults src.old) (S.faults src.new) }
     ensures report_fault { result ≡ 9 → Rose (R.faults report.old) (R.faults report.new) }
+    ensures no_input_fault { (result ≡ 3) ⊎ (S.faults src.new ≡ S.faults src.old) }
+    ensures no_report_fault { (result ≡ 9) ⊎ (R.faults report.new ≡ R.faults report.old) }
     ensures answered { Answered (command_of (map string_bytes words.now)) (S.bytes src.old)
         (R.bytes report.old) (R.bytes report.new)
         (E.bytes errors.old) (E.bytes errors.new) (E.faults errors.old)
@@ -63,9 +65,13 @@ pub fn run<S: Source, O: Sink, T: Sink, R: Sink, E: Sink>(
     ensures report_front { IfSome (S.bytes src.old) (λ all.
         GainsPrefix (R.bytes report.old) (R.bytes report.new)
         (text_of (wanted_of (command_of (map string_bytes words.now)) all))) }
+    ensures report_name { R.created report.new ≡ R.created report.old }
+    ensures unfinished { (result ≡ 0) ⊎ StaysUnfinished (R.finished report.old)
+        (R.finished report.new) }
     ensures out_kept { out.new ≡ out.old }
     ensures script_kept { script.new ≡ script.old }
     ensures errors_kept { result ≡ 0 → errors.new ≡ errors.old }
+    ensures errors_open { KeepsSink E.created E.finished E.faults errors.old errors.new }
 {
     let answer = answer(alloc, words, src, report);
     tell(errors, &answer);
@@ -93,6 +99,9 @@ fn answer<S: Source, R: Sink>(
     ensures numbers { HasNumbers result }
     ensures source { HasCauseOf Fault.InputFault (S.faults src.old) (S.faults src.new) result }
     ensures sink { HasCauseOf Fault.ReportFault (R.faults report.old) (R.faults report.new) result }
+    ensures report_name { R.created report.new ≡ R.created report.old }
+    ensures unfinished { OnErr result (StaysUnfinished (R.finished report.old)
+        (R.finished report.new)) }
 {
     let request = read_words(alloc, words)?;
     list(alloc, &request, src, report)
@@ -119,6 +128,7 @@ fn tell<E: Sink>(errors: &mut E, answer: &Result<(), Fault>)
     ensures said { Says answer.now (E.bytes errors.old) (E.bytes errors.new) (E.faults errors.old)
         (E.faults errors.new) }
     ensures nothing { IsOk answer.now → errors.new ≡ errors.old }
+    ensures kept { KeepsSink E.created E.finished E.faults errors.old errors.new }
 {
     if let Err(fault) = answer {
         let _ = put_fault(errors, fault);

@@ -7,12 +7,15 @@ ghost use Rattle.page_walk.specs.Cells.{row_of};
 ghost use Rattle.salvage_cli.specs.Schema.{bad_line, lines_text, row_line, schema_text};
 
 use dbdata_list::ListFault;
-use page_access::{Failed, Geometry, ReadFault, Sink, Source};
+use page_access::{Failed, Geometry, PageCache, ReadFault, Sink, Source};
 use page_lists::PageTable;
 use page_walk::{LISTS, TakenCell, survey};
 use raw_schema::{RawSchema, SchemaRow, read_schema};
 use report_text::{ReportLine, put_line};
 use std::alloc::Global;
+
+// How many pages are in memory at a time.
+const CACHED_PAGES: u32 = 64;
 
 /// Lists the rows of the schema, and then the readable cells of its tree that are no rows of it.
 pub(crate) fn list_schema<S: Source, R: Sink>(
@@ -27,7 +30,7 @@ pub(crate) fn list_schema<S: Source, R: Sink>(
     ensures source { HasCauseOf ListFault.Source (S.faults src.old) (S.faults src.new) result }
     ensures sink { HasCauseOf ListFault.Sink (R.faults to.old) (R.faults to.new) result }
     ensures kept { KeepsSource S.bytes S.attached S.faults S.reads src.old src.new }
-    ensures kept_sink { KeepsSink R.created R.faults to.old to.new }
+    ensures kept_sink { KeepsSink R.created R.finished R.faults to.old to.new }
 {
     let schema = schema_of(alloc, src, geo)?;
     put_schema(schema, to)?;
@@ -42,16 +45,17 @@ fn schema_of<S: Source>(alloc: Global, src: &mut S, geo: &Geometry) -> Result<Ra
     ensures source { HasCauseOf ReadFault.Source (S.faults src.old) (S.faults src.new) result }
     ensures kept { KeepsSource S.bytes S.attached S.faults S.reads src.old src.new }
 {
-    let kinds = survey(alloc, src, geo)?;
+    let mut cache = PageCache::new(alloc, geo, CACHED_PAGES)?;
+    let kinds = survey(alloc, src, geo, &mut cache)?;
     let mut table = PageTable::new(alloc, geo.pages, LISTS)?;
-    read_schema(alloc, src, geo, &kinds, &mut table)
+    read_schema(alloc, src, geo, &mut cache, &kinds, &mut table)
 }
 
 // Puts the lines of a schema.
 fn put_schema<R: Sink>(schema: RawSchema, to: &mut R) -> Result<(), Failed>
     ensures writes { Writes (R.bytes to.old) (R.bytes to.new) (R.faults to.old) (R.faults to.new)
         (lines_text schema.rows.items (map row_of schema.bad.items)) result }
-    ensures kept { KeepsSink R.created R.faults to.old to.new }
+    ensures kept { KeepsSink R.created R.finished R.faults to.old to.new }
 {
     put_rows(schema.rows, to)?;
     put_bad_rows(&schema.bad, to)
@@ -61,7 +65,7 @@ fn put_schema<R: Sink>(schema: RawSchema, to: &mut R) -> Result<(), Failed>
 fn put_rows<R: Sink>(rows: Vec<SchemaRow>, to: &mut R) -> Result<(), Failed>
     ensures writes { Writes (R.bytes to.old) (R.bytes to.new) (R.faults to.old) (R.faults to.new)
         (flat_map row_line rows.items) result }
-    ensures kept { KeepsSink R.created R.faults to.old to.new }
+    ensures kept { KeepsSink R.created R.finished R.faults to.old to.new }
 {
     for row in rows {
         put_row(row, to)?;
@@ -73,7 +77,7 @@ fn put_rows<R: Sink>(rows: Vec<SchemaRow>, to: &mut R) -> Result<(), Failed>
 fn put_row<R: Sink>(row: SchemaRow, to: &mut R) -> Result<(), Failed>
     ensures writes { Writes (R.bytes to.old) (R.bytes to.new) (R.faults to.old) (R.faults to.new)
         (row_line row) result }
-    ensures kept { KeepsSink R.created R.faults to.old to.new }
+    ensures kept { KeepsSink R.created R.finished R.faults to.old to.new }
 {
     let line = ReportLine::Row {
         page: u64::from(row.place.page),
@@ -91,7 +95,7 @@ fn put_row<R: Sink>(row: SchemaRow, to: &mut R) -> Result<(), Failed>
 fn put_bad_rows<R: Sink>(cells: &[TakenCell], to: &mut R) -> Result<(), Failed>
     ensures writes { Writes (R.bytes to.old) (R.bytes to.new) (R.faults to.old) (R.faults to.new)
         (flat_map bad_line (map row_of cells.now)) result }
-    ensures kept { KeepsSink R.created R.faults to.old to.new }
+    ensures kept { KeepsSink R.created R.finished R.faults to.old to.new }
 {
     for cell in cells {
         put_bad_row(cell, to)?;
@@ -103,7 +107,7 @@ fn put_bad_rows<R: Sink>(cells: &[TakenCell], to: &mut R) -> Result<(), Failed>
 fn put_bad_row<R: Sink>(cell: &TakenCell, to: &mut R) -> Result<(), Failed>
     ensures writes { Writes (R.bytes to.old) (R.bytes to.new) (R.faults to.old) (R.faults to.new)
         (bad_line (row_of cell.now)) result }
-    ensures kept { KeepsSink R.created R.faults to.old to.new }
+    ensures kept { KeepsSink R.created R.finished R.faults to.old to.new }
 {
     let line = ReportLine::BadRow {
         page: u64::from(cell.place.page),

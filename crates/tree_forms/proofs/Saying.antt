@@ -5,7 +5,7 @@ use Rattle.page_access.specs.Pages.{File, page_at}
 use Rattle.page_lists.specs.Table.{is_page}
 use Rattle.cell_reader.specs.declared.shapes.PageShape.{PageShape}
 use Rattle.cell_reader.specs.declared.cells.CellView.{CellView}
-use Rattle.cell_reader.specs.Screen.{Verdict, Kept, Faulty, Overlaps, verdicts}
+use Rattle.cell_reader.specs.Screen.{Verdict, Accepts, Faulty, Overlaps, verdicts}
 use Rattle.cell_reader.specs.Shape.{right_of, shape_of}
 use Rattle.tree_forms.specs.Node.{Held, Node, cons_of, held_of, node_of, node_on, node_with, said_by}
 use Rattle.tree_forms.specs.Laws.{IsRead, SaysAccepted}
@@ -13,25 +13,25 @@ use Rattle.tree_forms.specs.Laws.{IsRead, SaysAccepted}
 -- cells that all say something are accepted
 record Said (page : List ℕ) (vs : List Verdict) (cells : List Held) : Type 0 where
   views : List CellView
-  kept : vs ≡ map Kept views
+  kept : vs ≡ map Accepts views
   cells_are : cells ≡ map (held_of page) views
 
 said_more : (page : List ℕ) (v : CellView) (vs : List Verdict) (rest : Option (List Held)) (cells : List Held)
-    → ((more : List Held) → rest ≡ Some more → Said page vs more) → cons_of page v rest ≡ Some cells → Said page (Kept v ∷ vs) cells
+    → ((more : List Held) → rest ≡ Some more → Said page vs more) → cons_of page v rest ≡ Some cells → Said page (Accepts v ∷ vs) cells
 said_more page v vs None cells below is = cc
 said_more page v vs (Some more) cells below is =
     let s = below more refl in
     let head : held_of page v ∷ more ≡ cells = cc in
     record {
       views = v ∷ s.views;
-      kept = ap (λ (ws : List Verdict). Kept v ∷ ws) s.kept;
+      kept = ap (λ (ws : List Verdict). Accepts v ∷ ws) s.kept;
       cells_are = sym head ∙ ap (λ (hs : List Held). held_of page v ∷ hs) s.cells_are;
     }
 
 said : (page : List ℕ) (vs : List Verdict) (cells : List Held) → said_by page vs ≡ Some cells → Said page vs cells
 said page [] cells is =
     let none : [] ≡ cells = cc in record { views = []; kept = refl; cells_are = sym none }
-said page (Kept v ∷ vs) cells is = said_more page v vs (said_by page vs) cells (said page vs) is
+said page (Accepts v ∷ vs) cells is = said_more page v vs (said_by page vs) cells (said page vs) is
 said page (Faulty fault ∷ vs) cells is = cc
 said page (Overlaps ∷ vs) cells is = cc
 

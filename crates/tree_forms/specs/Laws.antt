@@ -4,7 +4,7 @@ use Rattle.page_access.specs.Pages.{File, page_at}
 use Rattle.page_lists.specs.Table.{is_page}
 use Rattle.cell_reader.specs.declared.shapes.PageShape.{PageShape}
 use Rattle.cell_reader.specs.declared.cells.CellView.{CellView}
-use Rattle.cell_reader.specs.Screen.{Verdict, Kept, verdicts}
+use Rattle.cell_reader.specs.Screen.{Verdict, Accepts, verdicts}
 use Rattle.cell_reader.specs.Shape.{right_of, shape_of}
 use Rattle.tree_forms.specs.Node.{Held, Node, held_of, node_of}
 
@@ -16,7 +16,7 @@ pub record IsRead (f : File) (p : ℕ) (n : Node) : Type 0 where
   pub kind_is : shape.kind ≡ n.kind
   pub leaf_is : shape.leaf ≡ n.leaf
   pub views : List CellView
-  pub kept : verdicts (page_at f p) f.usable f.pages shape ≡ map Kept views
+  pub kept : verdicts (page_at f p) f.usable f.pages shape ≡ map Accepts views
   pub cells_are : n.cells ≡ map (held_of (page_at f p)) views
   pub right_is : n.right ≡ right_of (page_at f p) shape
 

@@ -6,7 +6,7 @@ use Rattle.page_lists.specs.Table.{is_page}
 use Rattle.cell_reader.specs.declared.shapes.Kind.{Kind}
 use Rattle.cell_reader.specs.declared.shapes.PageShape.{PageShape}
 use Rattle.cell_reader.specs.declared.cells.CellView.{CellView}
-use Rattle.cell_reader.specs.Screen.{Verdict, Kept, Faulty, Overlaps, verdicts}
+use Rattle.cell_reader.specs.Screen.{Verdict, Accepts, Faulty, Overlaps, verdicts}
 use Rattle.cell_reader.specs.Shape.{right_of, shape_of}
 
 -- what a cell says: the child that it names, its rowid or key, and its payload's length, local bytes and
@@ -43,7 +43,7 @@ cons_of page v (Some rest) = Some (held_of page v ∷ rest)
 -- what the cells of a page say: nothing where one of them is not accepted
 abbrev pub said_by : List ℕ → List Verdict → Option (List Held)
 said_by page [] = Some []
-said_by page (Kept v ∷ rest) = cons_of page v (said_by page rest)
+said_by page (Accepts v ∷ rest) = cons_of page v (said_by page rest)
 said_by page (Faulty fault ∷ rest) = None
 said_by page (Overlaps ∷ rest) = None
 

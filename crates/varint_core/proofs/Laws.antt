@@ -160,3 +160,7 @@ no_more s rest v w one two =
     let whole : varint_at (s ++ rest) ≡ Some (w, length (s ++ rest)) = ap varint_at (sym (append-nil (s ++ rest))) ∙ varint_again (s ++ rest) [] w two in
     let p = some_is v (length s) w (length (s ++ rest)) (sym (varint_again s rest v one) ∙ whole) in
     nil_from_length rest (omega (arith, p.1, length-append s rest))
+
+-- what spells a number has a byte
+pub varint_some : (bytes : List ℕ) (v : ℕ) → IsVarint bytes v → 1 ≤ length bytes
+varint_some bytes v s = omega (arith, ap length s.parts, length-append s.front (s.last ∷ []))

@@ -63,7 +63,7 @@ len_exact v k one most low high =
     ]
 
 -- a long number has nine bytes
-len_nine : (v n : ℕ) → IsLen v n → 2 ^ 56 ≤ v → n ≡ 9
+pub len_nine : (v n : ℕ) → IsLen v n → 2 ^ 56 ≤ v → n ≡ 9
 len_nine v n l big =
     elim (cases_Bool (ltb n 9)) [
       | inl e ↦

@@ -1,11 +1,13 @@
-use Rattle.std.proofs.Common.{◌≡◌, ◌≤◌, ◌+◌, ◌-◌, ◌∙◌, ℕ, length, ap, arith, lit≤, subst, sym}
+use Rattle.std.proofs.Common.{◌≡◌, ◌≤◌, ◌+◌, ◌-◌, ◌∙◌, ℕ, false, length, ap, arith, lit≤, subst, sym, refl}
 use Rattle.page_access.specs.Files.{file_of}
-use Rattle.page_access.proofs.Keeps.{KeepsSink-refl, KeepsSink-trans, KeepsSource-refl, KeepsSource-trans}
+use Rattle.std.proofs.lemmas.List.{length-replicate}
+use Rattle.page_access.proofs.Caching.{cached_at, new_cached}
+use Rattle.page_access.proofs.Keeps.{KeepsSink-refl, KeepsSink-trans, not_failed, passed_more, passed_none}
 use Rattle.page_lists.specs.Table.{Table, unused}
 use Rattle.page_walk.specs.Turns.{left_by}
 use Rattle.dbdata_list.specs.Listing.{pages_data}
 use Rattle.dbdata_list.specs.declared.faults.ListFault.TheVariants.{Memory, Sink}
-use Rattle.dbdata_list.proofs.Told.{passed_on, told_left, told_out, told_start, told_step, told_with}
+use Rattle.dbdata_list.proofs.Told.{passed_back, passed_on, told_left, told_out, told_start, told_step, told_with}
 use Rattle.dbdata_list.proofs.Turns.{data_all, data_more}
 use Rattle.dbdata_list.proofs.cells.list_data.Goals as goal
 
@@ -16,17 +18,20 @@ returns-in_err-table-clause-text g c = told_left _ Sink _ _ _ _ c.from_residual.
 pub loop-done-init : goal.loop-done-init
 loop-done-init g c = (
   told_start _ _ _ _ _ (λ all. data_all (file_of all c.args.geo.now) _ c.in_ok-table.ensures.value),
-  KeepsSource-refl _ _ _ _ _,
-  KeepsSink-refl _ _ _,
+  passed_none _ _ _ _ _,
+  KeepsSink-refl _ _ _ _,
+  refl,
   ap (λ (t : Table). t.pages) c.in_ok-table.ensures.value,
   subst (λ (t : Table). 7 ≤ length t.lists) (sym c.in_ok-table.ensures.value) (lit≤ tt),
+  new_cached c.in_ok-cache.ensures,
+  ap length c.in_ok-accepted.ensures ∙ length-replicate c.args.geo.now.usable false,
 )
 
 pub returns-in_err-list_cells-clause-text : goal.returns-in_err-list_cells-clause-text
 returns-in_err-list_cells-clause-text g c =
     told_out _ _ Sink _ Sink _ _ _ _ _ _ _ _ _ _
     (λ all. pages_data (file_of all c.args.geo.now) (c.args.geo.now.pages - (c.loop-done.done + 1)) (c.loop-done.done + 1 + 1) (left_by (file_of all c.args.geo.now) (c.loop-done.done + 1) (unused c.loop-done.table))) _
-    c.from_residual-in_err-list_cells.ensures.0 (passed_on _ _ _ c.from_residual-in_err-list_cells.ensures.1) c.loop-done.invariant.1.told
+    c.from_residual-in_err-list_cells.ensures.0 (passed_on _ _ _ c.from_residual-in_err-list_cells.ensures.1) (passed_back _ _ _ c.from_residual-in_err-list_cells.ensures.1) c.loop-done.invariant.1.told
     (λ all. data_more (file_of all c.args.geo.now) c.args.geo.now.pages c.loop-done.done (unused c.loop-done.table) (omega arith)) c.loop-done.invariant.0 c.in_err-list_cells.ensures.text
 
 pub loop-done-preserved : goal.loop-done-preserved
@@ -36,8 +41,19 @@ loop-done-preserved g c = (
       c.loop-done.invariant.1.told c.in_ok-list_cells.ensures.left
       (told_step _ Sink _ _ _ _ _ _ _ _ _ _ _ _ c.loop-done.invariant.1.told
       (λ all. data_more (file_of all c.args.geo.now) c.args.geo.now.pages c.loop-done.done (unused c.loop-done.table) (omega arith)) c.loop-done.invariant.0 c.in_ok-list_cells.ensures.text),
-  KeepsSource-trans c.loop-done.invariant.1 c.in_ok-list_cells.ensures.kept,
+  passed_more c.loop-done.invariant.1 c.in_ok-list_cells.ensures.kept (not_failed c.in_ok-list_cells.ensures.source.steady),
   KeepsSink-trans c.loop-done.invariant.2 c.in_ok-list_cells.ensures.kept_sink,
-  c.in_ok-list_cells.ensures.pages ∙ c.loop-done.invariant.3,
-  subst (λ (n : ℕ). 7 ≤ n) (sym c.in_ok-list_cells.ensures.lists_kept) c.loop-done.invariant.4,
+  not_failed c.in_ok-list_cells.ensures.sink.steady ∙ c.loop-done.invariant.3,
+  c.in_ok-list_cells.ensures.pages ∙ c.loop-done.invariant.4,
+  subst (λ (n : ℕ). 7 ≤ n) (sym c.in_ok-list_cells.ensures.lists_kept) c.loop-done.invariant.5,
+  cached_at c.in_ok-list_cells.ensures.kept.told c.in_ok-list_cells.ensures.cached,
+  c.in_ok-list_cells.ensures.marks ∙ c.loop-done.invariant.7,
 )
+
+pub returns-in_err-cache-clause-text : goal.returns-in_err-cache-clause-text
+returns-in_err-cache-clause-text g c = told_left _ Sink _ _ _ _ c.from_residual-in_err-cache.ensures.0
+    (λ e. let same : Memory ≡ Sink = passed_on _ Memory Sink c.from_residual-in_err-cache.ensures.1 e in absurd cc)
+
+pub returns-in_err-bytes-clause-text : goal.returns-in_err-bytes-clause-text
+returns-in_err-bytes-clause-text g c = told_left _ Sink _ _ _ _ c.from_residual-in_err-bytes.ensures.0
+    (λ e. let same : Memory ≡ Sink = passed_on _ Memory Sink c.from_residual-in_err-bytes.ensures.1 e in absurd cc)

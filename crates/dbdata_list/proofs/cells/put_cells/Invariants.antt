@@ -11,4 +11,4 @@ invariant-loop-cell g l =
     let s = g.R.Sink in
     WroteFront (s.bytes l.initial.to) (s.bytes l.to) (s.faults l.initial.to) (s.faults l.to)
     (outcomes_text l.page (map outcome_of (drop l.cell-index l.cells))) (outcomes_text l.page (map outcome_of l.cells))
-    × KeepsSink s.created s.faults l.initial.to l.to
+    × KeepsSink s.created s.finished s.faults l.initial.to l.to

@@ -1,7 +1,7 @@
 use Rattle.std.proofs.Common.{◌++◌}
 use Rattle.hex.specs.Hex.{encode_lower}
 use Rattle.page_access.proofs.Gains.{front_as, front_last, front_out, front_start, front_step}
-use Rattle.dbdata_list.specs.Text.{newline}
+use Rattle.line_text.specs.Text.{newline}
 use Rattle.dbdata_list.proofs.Pieces.{word_parts}
 use Rattle.dbdata_list.proofs.lines.put_bytes.Goals as goal
 

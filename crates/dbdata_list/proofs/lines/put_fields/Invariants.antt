@@ -10,4 +10,4 @@ invariant-loop-field g l =
     let s = g.R.Sink in
     WroteFront (s.bytes l.initial.to) (s.bytes l.to) (s.faults l.initial.to) (s.faults l.to)
     (fields_text l.page l.cell l.field (drop l.field l.values)) (fields_text l.page l.cell 0 l.values)
-    × KeepsSink s.created s.faults l.initial.to l.to
+    × KeepsSink s.created s.finished s.faults l.initial.to l.to

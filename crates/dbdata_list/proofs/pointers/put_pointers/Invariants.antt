@@ -10,4 +10,4 @@ invariant-loop-child g l =
     let s = g.R.Sink in
     WroteFront (s.bytes l.initial.to) (s.bytes l.to) (s.faults l.initial.to) (s.faults l.to)
     (pointer_lines l.page (drop l.child-index l.children)) (pointer_lines l.page l.children)
-    × KeepsSink s.created s.faults l.initial.to l.to
+    × KeepsSink s.created s.finished s.faults l.initial.to l.to

@@ -1,4 +1,5 @@
 use Rattle.std.proofs.Common.{ℕ, ◌-◌, ◌∙◌, sym, ap, arith}
+use Rattle.page_access.proofs.Keeps.{not_failed}
 use Rattle.overflow_chain.proofs.Reading.{reading_start, reading_partition, reading_pages, reading_lists, reading_page, reading_more, reading_done, reading_chain, reading_broken, paid_err}
 use Rattle.overflow_chain.proofs.Taking.{taking_done}
 use Rattle.overflow_chain.proofs.chains.read_chain.Goals as goal
@@ -38,7 +39,7 @@ pub loop-missing-preserved : goal.loop-missing-preserved
 loop-missing-preserved g c =
     reading_more c.take_page.new.src c.take_page.new.table c.take_page.new.pages.items c.take_page.new.to.items c.take_page.new.buffer c.saturating_sub-missing.result c.read_u32-at.result
     c.loop-missing.invariant c.loop-missing-test.true c.in_default.ensures.none c.in_ok-take_page.ensures.page c.in_ok-take_page.ensures.pages c.in_ok-take_page.ensures.bytes
-    c.in_ok-take_page.ensures.moved c.in_ok-take_page.ensures.kept c.in_ok-take_page.ensures.reads c.read_u32-at.ensures
+    c.in_ok-take_page.ensures.moved c.in_ok-take_page.ensures.kept (not_failed c.in_ok-take_page.ensures.cause.steady) c.in_ok-take_page.ensures.reads c.read_u32-at.ensures
     (c.saturating_sub-missing.ensures ∙ ap (λ (n : ℕ). c.loop-missing.missing - n) c.from-content_len.ensures)
 
 pub returns-clause-value : goal.returns-clause-value

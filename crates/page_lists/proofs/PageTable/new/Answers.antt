@@ -1,36 +1,35 @@
-use Rattle.std.proofs.Common.{◌≡◌, ℕ, ◌+◌, ◌-◌, ◌≤◌, List, [], ◌∷◌, replicate, refl, ap, ◌∙◌, arith}
-use Rattle.std.proofs.lemmas.List.Elements.{All-push, All-nil}
+use Rattle.std.proofs.Common.{◌≡◌, ℕ, ◌+◌, ◌-◌, ◌^◌, ◌<◌, List, ap, map, sym, ◌∙◌, subst}
 use Rattle.std.specs.List.{range_with_len}
-use Rattle.std.specs.Vec.{vec_capacity}
-use Rattle.page_lists.proofs.Moves.{IsPartition-fresh}
-use Rattle.page_lists.proofs.Vectors.{one_empty_more, sound_fresh}
+use Rattle.page_lists.specs.Rings.{State, ends_of_row, link_in_row}
+use Rattle.page_lists.specs.Stored.{Spells, table_of}
+use Rattle.page_lists.specs.Table.{fresh}
+use Rattle.page_lists.specs.declared.rings.Link.{Link}
+use Rattle.page_lists.specs.declared.rings.Ends.{Ends}
+use Rattle.page_lists.proofs.Rows.{row_of, spells_fresh}
+use Rattle.page_lists.proofs.Spelled.{all_spelled}
 use Rattle.page_lists.proofs.PageTable.new.Goals as goal
 
-pub loop-made-init : goal.loop-made-init
-loop-made-init c =
-    let pushed : c.push.new.self.items ≡ c.in_ok-rising.field-0 ∷ [] = rw c.in_ok-all.ensures.items at c.in_ok-push.ensures.items in (
-      rw (pushed, c.in_ok-rising.ensures.items) refl,
-      rw pushed (All-push (λ v. c.args.pages ≤ vec_capacity v) [] c.in_ok-rising.field-0 (All-nil (λ v. c.args.pages ≤ vec_capacity v)) c.in_ok-rising.ensures.room),
-    )
+fresh_spells : (r : State) (n more : ℕ) → n < 2 ^ 32 - 1 → r.links ≡ map (link_in_row n) (range_with_len 0 (n + 1))
+    → r.ends ≡ ends_of_row n more → Spells r (fresh n more)
+fresh_spells r n more small links ends =
+    let same : r ≡ row_of n more =
+    ap (λ (ls : List Link). record { links = ls; ends = r.ends }) links
+    ∙ ap (λ (es : List Ends). record { links = map (link_in_row n) (range_with_len 0 (n + 1)); ends = es }) ends in
+    subst (λ (x : State). Spells x (fresh n more)) (sym same) (spells_fresh n more small)
 
-pub loop-made-preserved : goal.loop-made-preserved
-loop-made-preserved c = (
-  one_empty_more c.loop-made.all.items c.push-in-loop-made.new.self.items c.in_ok-with_capacity.field-0 (range_with_len 1 c.args.pages) (c.loop-made._made - 1) (c.loop-made._made + 1 - 1)
-      c.loop-made.invariant.0 c.in_ok-push-2.ensures.items c.in_ok-with_capacity.ensures.items (omega arith),
-  rw c.in_ok-push-2.ensures.items (All-push (λ v. c.args.pages ≤ vec_capacity v) c.loop-made.all.items c.in_ok-with_capacity.field-0 c.loop-made.invariant.1 c.in_ok-with_capacity.ensures.capacity),
-)
+fresh_table : (r : State) (n more : ℕ) → Spells r (fresh n more) → table_of (record { pages = n; rings = r }) ≡ fresh n more
+fresh_table r n more spells =
+    ap (λ (ls : List (List ℕ)). record { pages = n; lists = ls }) (all_spelled r (fresh n more) spells)
 
 pub invariant_of-result : goal.invariant_of-result
 invariant_of-result c =
-    sound_fresh (record { pages = c.args.pages; owners = c.in_ok-owners.owners; lists = c.loop-made.all }) (c.loop-made._made - 1)
-    (ap (λ (all : List (List ℕ)). record { pages = c.args.pages; lists = all }) c.loop-made.invariant.0) (omega arith) (omega arith)
-    (c.in_ok-owners.ensures.items_if_clones_equal (λ y e. e)) c.loop-made.invariant.1
+    let spells = fresh_spells c.in_ok-rings.rings c.args.pages (c.args.lists - 1) c.requires.small c.in_ok-rings.ensures.links c.in_ok-rings.ensures.ends in
+    subst (Spells c.in_ok-rings.rings) (sym (fresh_table c.in_ok-rings.rings c.args.pages (c.args.lists - 1) spells)) spells
 
 pub returns-clause-value : goal.returns-clause-value
 returns-clause-value c =
-    let made : c.loop-made._made - 1 ≡ c.args.lists - 1 = omega arith in
-    ap (λ (all : List (List ℕ)). record { pages = c.args.pages; lists = all })
-    (c.loop-made.invariant.0 ∙ ap (λ (n : ℕ). range_with_len 1 c.args.pages ∷ replicate n []) made)
+    fresh_table c.in_ok-rings.rings c.args.pages (c.args.lists - 1)
+    (fresh_spells c.in_ok-rings.rings c.args.pages (c.args.lists - 1) c.requires.small c.in_ok-rings.ensures.links c.in_ok-rings.ensures.ends)
 
 pub returns-clause-partition : goal.returns-clause-partition
-returns-clause-partition c = rw c.loop-made.invariant.0 (IsPartition-fresh c.args.pages (c.loop-made._made - 1))
+returns-clause-partition c = (invariant_of-result c).each

@@ -1,20 +1,15 @@
-use Rattle.std.proofs.Common.{◌≡◌, ◌≤◌, arith, sym, ◌∙◌, subst}
+use Rattle.std.proofs.Common.{◌≡◌, ◌≤◌, ◌∙◌, ap, sym, subst}
+use Rattle.page_lists.specs.declared.rings.Link.{Link}
 use Rattle.page_lists.specs.Lists.{after}
-use Rattle.page_lists.specs.Table.{Table, owner, list_at}
-use Rattle.page_lists.proofs.Vectors.{owner_read, owner_in, after_read}
+use Rattle.page_lists.specs.Rings.{link_at, some_page}
+use Rattle.page_lists.specs.Stored.{table_of}
+use Rattle.page_lists.specs.Table.{Table, list_at, owner}
+use Rattle.page_lists.proofs.Spelled.{link_after}
 use Rattle.page_lists.proofs.PageTable.next.Goals as goal
-
-pub index-requires : goal.index-requires
-index-requires c =
-    let high : c.args.page ≤ c.self.inside.pages = subst (λ (t : Table). c.args.page ≤ t.pages) (sym c.self.view_is) c.requires.high in
-    let is = owner_read c.self.inside c.args.page c.index-list.result.now c.self.invariant c.requires.low high c.index-list.ensures in
-    let below = owner_in c.self.inside c.args.page c.self.invariant c.requires.low high in
-    omega (arith, is, below, c.self.inside.lists.ok.0)
 
 pub returns : goal.returns
 returns c =
     let high : c.args.page ≤ c.self.inside.pages = subst (λ (t : Table). c.args.page ≤ t.pages) (sym c.self.view_is) c.requires.high in
-    let is = owner_read c.self.inside c.args.page c.index-list.result.now c.self.invariant c.requires.low high c.index-list.ensures in
-    let read = after_read c.self.inside c.args.page c.index-list.result.now c.index.result.now c.self.invariant c.requires.low high is c.index.ensures in
-    let shown = subst (λ (t : Table). after c.args.page c.index.result.now.items ≡ after c.args.page (list_at (owner c.args.page t.lists) t.lists)) c.self.view_is read in
-    c.page_after.ensures ∙ rw c.deref.ensures.value shown
+    c.page_or_none.ensures ∙ ap (λ (x : Link). some_page x.after) c.link.ensures
+    ∙ subst (λ (t : Table). some_page (link_at c.self.inside.rings c.args.page).after ≡ after c.args.page (list_at (owner c.args.page t.lists) t.lists))
+    c.self.view_is (link_after c.self.inside.rings (table_of c.self.inside) c.args.page c.self.invariant c.requires.low high)

@@ -10,6 +10,7 @@ loop-number-preserved g c =
       same_length = search rules;
       fits = omega (arith, loop.invariant.fits, one, once c.is_plausible_page.result);
       kept = search rules;
+      steady = c.in_ok-load.ensures.cause.steady ∙ loop.invariant.steady;
       counted = told_count _ _ _ _ _ _ _ _ _ _ loop.invariant.kept.told c.loop-number-test.true c.in_ok-load.ensures.page
           c.is_plausible_page.ensures (ap (λ n. loop.count + n) one) loop.invariant.counted;
       read = told_reads _ _ _ _ _ _ _ _ loop.invariant.kept.told c.loop-number-test.true loop.invariant.read c.in_ok-load.ensures.reads;

@@ -10,6 +10,7 @@ invariant-loop-number g l = record {
   same_length : length l.page ≡ length l.initial.page;
   fits : l.count < l.number;
   kept : KeepsSource g.S.Source.bytes g.S.Source.attached g.S.Source.faults g.S.Source.reads l.initial.src l.src;
+  steady : g.S.Source.faults l.src ≡ g.S.Source.faults l.initial.src;
   counted : IfSome (g.S.Source.bytes l.initial.src)
       (λ all. l.count
       + count_by (λ p. is_plausible (page_of all l.geo.page_size p) p l.geo.usable l.geo.pages)

@@ -1,4 +1,4 @@
-use Rattle.std.proofs.Common.{◌≤◌, ◌+◌, get_or, refl, rules, arith}
+use Rattle.std.proofs.Common.{◌≤◌, ◌+◌, ◌∙◌, get_or, refl, rules, arith}
 use Rattle.page_access.specs.Pages.{page_sizes}
 use Rattle.page_size.proofs.Ranks.{told_scores, told_reads_next, told_reads_out, usable_next, passes}
 use Rattle.page_size.proofs.scores.rank.Goals as goal
@@ -20,6 +20,7 @@ loop-size-preserved g c =
     record {
       room = search rules;
       kept = search rules;
+      steady = c.in_ok-pages.ensures.cause.steady ∙ loop.invariant.steady;
       usable = usable_next _ loop.size-index _ _ _ c.loop-size-test.true enough c.in_ok-push.ensures.items loop.invariant.usable;
       scored = told_scores _ _ _ _ page_sizes loop.size-index _ _ _ _ _ loop.invariant.kept.told c.loop-size-test.true refl
           (passes _ _ enough) c.in_ok-pages.ensures.value c.in_ok-push.ensures.items loop.invariant.scored;

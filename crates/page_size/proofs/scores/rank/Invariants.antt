@@ -11,6 +11,7 @@ abbrev pub invariant-loop-size : goal.invariant-loop-size
 invariant-loop-size g l = record {
   room : length l.page ≡ 65536;
   kept : KeepsSource g.S.Source.bytes g.S.Source.attached g.S.Source.faults g.S.Source.reads l.initial.src l.src;
+  steady : g.S.Source.faults l.src ≡ g.S.Source.faults l.initial.src;
   usable : All (λ s. IsUsable s.size l.reserved) l.scores.items;
   scored : IfSome (g.S.Source.bytes l.initial.src)
       (λ all. length all ≡ l.len → l.scores.items ++ scores_of all l.reserved (drop l.size-index page_sizes) ≡ ranking all l.reserved);

@@ -1,8 +1,10 @@
+use Rattle.std.proofs.Common.{◌∙◌, ap, ℕ, false, replicate}
+use Rattle.page_access.proofs.Keeps.{not_failed}
 use Rattle.page_walk.proofs.Going.{going_start, going_more, going_pages, going_lists, going_moves}
 use Rattle.page_walk.proofs.cells.add_cells.Goals as goal
 
 pub loop-i-init : goal.loop-i-init
-loop-i-init g c = going_start _ _ _ _ _ _ _ _ _ _ _ _ c.in_ok-accepted.ensures
+loop-i-init g c = going_start _ _ _ _ _ _ _ _ _ _ _ _ (c.clear.ensures ∙ ap (λ (n : ℕ). replicate n false) c.requires.marks)
 
 pub take_cell-requires-clause-same_pages : goal.take_cell-requires-clause-same_pages
 take_cell-requires-clause-same_pages g c = going_pages c.loop-i.invariant c.requires.same_pages
@@ -21,5 +23,5 @@ loop-i-preserved g c =
     going_more c.take_cell.new.src c.take_cell.new.table c.push_some.new.to.items c.screen-cell.new.accepted
     c.screen-cell.result c.in_ok-outcome.outcome c.loop-i.invariant c.loop-i-test.true c.screen-cell.ensures.verdict
     c.screen-cell.ensures.marked c.screen-cell.ensures.len c.in_ok-outcome.ensures.value c.in_ok-outcome.ensures.moved
-    c.in_ok-outcome.ensures.small c.take_cell.ensures.kept c.take_cell.ensures.moves c.in_ok-outcome.ensures.reads
+    c.in_ok-outcome.ensures.small c.take_cell.ensures.kept (not_failed c.in_ok-outcome.ensures.cause.steady) c.take_cell.ensures.moves c.in_ok-outcome.ensures.reads
     c.in_ok-push_some.ensures.items

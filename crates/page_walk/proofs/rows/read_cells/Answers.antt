@@ -4,15 +4,15 @@ use Rattle.page_walk.specs.Cells.{outcomes_on}
 use Rattle.page_walk.proofs.Sorting.{adds_rows, rows_told}
 use Rattle.page_walk.proofs.rows.read_cells.Goals as goal
 
-pub returns-in_err-sort_out-clause-adds : goal.returns-in_err-sort_out-clause-adds
-returns-in_err-sort_out-clause-adds g c =
-    adds_rows _ _ _ _ _ _ _ c.new-outcomes.ensures.items c.in_ok-cells_of.ensures.adds c.sort_out.ensures.front
+pub returns-in_err-sort_outcomes-clause-adds : goal.returns-in_err-sort_outcomes-clause-adds
+returns-in_err-sort_outcomes-clause-adds g c =
+    adds_rows _ _ _ _ _ _ _ c.new-outcomes.ensures.items c.in_ok-cells_of.ensures.adds c.sort_outcomes.ensures.front
 
 pub returns-clause-rows : goal.returns-clause-rows
 returns-clause-rows g c =
     rows_told (g.S.Source.bytes c.args.src.now) (λ all. outcomes_on (file_of all c.args.geo.now) c.args.page (unused c.args.table.now))
-    _ _ _ _ c.new-outcomes.ensures.items c.in_ok-cells_of.ensures.value c.in_ok-sort_out.ensures.rows
+    _ _ _ _ c.new-outcomes.ensures.items c.in_ok-cells_of.ensures.value c.in_ok-sort_outcomes.ensures.rows
 
 pub returns-clause-adds : goal.returns-clause-adds
 returns-clause-adds g c =
-    adds_rows _ _ _ _ _ _ _ c.new-outcomes.ensures.items c.in_ok-cells_of.ensures.adds c.sort_out.ensures.front
+    adds_rows _ _ _ _ _ _ _ c.new-outcomes.ensures.items c.in_ok-cells_of.ensures.adds c.sort_outcomes.ensures.front

@@ -1,9 +1,11 @@
-use Rattle.std.proofs.Common.{rules, false, length, ◌≤◌, ◌+◌, sym, ◌∙◌, ap, arith, w64, to_z, of_z}
+use Rattle.std.proofs.Common.{rules, refl, false, length, ◌≤◌, ◌+◌, sym, ◌∙◌, ap, arith, w64, to_z, of_z}
 use Rattle.std.proofs.lemmas.List.{length-replicate}
 use Rattle.std.proofs.lemmas.Int.{to_z-of_z}
 use Rattle.page_lists.proofs.Counts.{length-minus}
 use Rattle.page_lists.proofs.Uses.{Moves-append, Moves-none}
 use Rattle.page_access.specs.Files.{IsWhole}
+use Rattle.page_access.proofs.Caching.{cached_at}
+use Rattle.page_access.proofs.Keeps.{not_failed}
 use Rattle.page_walk.proofs.Going.{always_told}
 use Rattle.page_walk.proofs.Taking.{part_are_pages}
 use Rattle.page_walk.proofs.Walking.{no_reads, walking_start, walking_page, walking_moves, walking_more, walking_value, walking_reads, walked_tree, slice_named}
@@ -19,23 +21,25 @@ loop-at-init g c = record {
       (slice_named c.page_numbered-first.result c.as_slice.result.now c.pages.result c.args.table.now.pages
       (to_z w64 (of_z w64 c.args.root)) c.as_slice.ensures c.page_numbered-first.ensures c.pages.ensures.value)
       c.in_ok-take_all.ensures.took;
+  cached = c.requires.cached;
+  full = λ all. (all, refl);
 }
 
-pub push_pointers-requires-clause-page_least : goal.push_pointers-requires-clause-page_least
-push_pointers-requires-clause-page_least g c =
+pub pointers_with-requires-clause-page_least : goal.pointers_with-requires-clause-page_least
+pointers_with-requires-clause-page_least g c =
     (walking_page c.index.result.now c.loop-at.invariant.walking c.pages.ensures.partition c.requires.same_pages (omega arith) c.index.ensures).0
 
-pub push_pointers-requires-clause-page_most : goal.push_pointers-requires-clause-page_most
-push_pointers-requires-clause-page_most g c =
+pub pointers_with-requires-clause-page_most : goal.pointers_with-requires-clause-page_most
+pointers_with-requires-clause-page_most g c =
     (walking_page c.index.result.now c.loop-at.invariant.walking c.pages.ensures.partition c.requires.same_pages (omega arith) c.index.ensures).1
 
-pub returns-in_err-push_pointers-clause-moves : goal.returns-in_err-push_pointers-clause-moves
-returns-in_err-push_pointers-clause-moves g c = walking_moves c.loop-at.invariant.walking
+pub returns-in_err-pointers_with-clause-moves : goal.returns-in_err-pointers_with-clause-moves
+returns-in_err-pointers_with-clause-moves g c = walking_moves c.loop-at.invariant.walking
 
-pub returns-in_err-push_pointers-clause-reads : goal.returns-in_err-push_pointers-clause-reads
-returns-in_err-push_pointers-clause-reads g c =
-    walking_reads c.loop-at.table (g.S.Source.reads c.push_pointers.new.src) 1 _ c.loop-at.invariant.walking c.requires.list_least
-    (Moves-none c.args.list c.loop-at.table) (omega arith) c.push_pointers.ensures.reads
+pub returns-in_err-pointers_with-clause-reads : goal.returns-in_err-pointers_with-clause-reads
+returns-in_err-pointers_with-clause-reads g c =
+    walking_reads c.loop-at.table (g.S.Source.reads c.pointers_with.new.src) 1 _ c.loop-at.invariant.walking c.requires.list_least
+    (Moves-none c.args.list c.loop-at.table) (omega arith) c.pointers_with.ensures.reads
 
 pub take_all-requires-in-loop-at-clause-same_pages :
     goal.take_all-requires-in-loop-at-clause-same_pages
@@ -57,12 +61,17 @@ loop-at-smaller g c = omega (arith, length-minus _ _ c.loop-at.invariant.walking
 
 pub loop-at-preserved : goal.loop-at-preserved
 loop-at-preserved g c = record {
-  marks = c.push_pointers.ensures.marks ∙ c.loop-at.invariant.marks;
-  walking = walking_more c.push_pointers.new.src c.args.survey.now c.take_all-in-loop-at.new.table c.clear.new.self.items
+  marks = c.pointers_with.ensures.marks ∙ c.loop-at.invariant.marks;
+  walking = walking_more c.pointers_with.new.src c.args.survey.now c.take_all-in-loop-at.new.table c.clear.new.self.items
       c.deref.result.now c.take_all-in-loop-at.new.found.items c.index.result.now c.loop-at.invariant.walking c.requires.list_least
       c.requires.same_pages c.requires.kinds (omega arith) c.index.ensures c.clear.ensures.items
-      (rw c.deref.ensures.value c.in_ok-push_pointers.ensures.value)
-      c.push_pointers.ensures.kept c.push_pointers.ensures.reads c.in_ok-take_all-2.ensures.took;
+      (rw c.deref.ensures.value c.in_ok-pointers_with.ensures.value)
+      c.pointers_with.ensures.kept (not_failed c.in_ok-pointers_with.ensures.cause.steady) c.pointers_with.ensures.reads c.in_ok-take_all-2.ensures.took;
+  cached = cached_at c.pointers_with.ensures.kept.told c.pointers_with.ensures.cached;
+  full = λ all.
+      let now = c.loop-at.invariant.full all in
+      let step = c.pointers_with.ensures.full now.0 in
+      (step.0, step.1 ∙ now.1);
 }
 
 pub returns-clause-value : goal.returns-clause-value
@@ -95,5 +104,5 @@ returns-in_err-take_all-clause-reads g c =
 
 pub returns-in_err-take_all-2-clause-reads : goal.returns-in_err-take_all-2-clause-reads
 returns-in_err-take_all-2-clause-reads g c =
-    walking_reads c.take_all-in-loop-at.new.table (g.S.Source.reads c.push_pointers.new.src) 1 _ c.loop-at.invariant.walking
-    c.requires.list_least c.take_all-in-loop-at.ensures.moves (omega arith) c.push_pointers.ensures.reads
+    walking_reads c.take_all-in-loop-at.new.table (g.S.Source.reads c.pointers_with.new.src) 1 _ c.loop-at.invariant.walking
+    c.requires.list_least c.take_all-in-loop-at.ensures.moves (omega arith) c.pointers_with.ensures.reads

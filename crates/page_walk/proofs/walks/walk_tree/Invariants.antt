@@ -1,4 +1,5 @@
 use Rattle.std.proofs.Common.{◌≡◌, ◌-◌, length}
+use Rattle.page_access.specs.Cache.{HasAll, IsCacheOf}
 use Rattle.page_lists.specs.Table.{unused}
 use Rattle.page_walk.proofs.Walking.{Walking}
 use Rattle.page_walk.proofs.walks.walk_tree.Given as goal
@@ -8,6 +9,8 @@ invariant-loop-at g l = record {
   marks : length l.accepted ≡ l.geo.usable;
   walking : Walking g.S.Source.bytes g.S.Source.attached g.S.Source.faults g.S.Source.reads l.geo l.kind
       l.root l.list l.fn.src l.src l.fn.table l.table l.found.items l.at;
+  cached : IsCacheOf (g.S.Source.bytes l.src) l.geo l.cache;
+  full : HasAll l.fn.cache → HasAll l.cache × (l.src ≡ l.fn.src);
 }
 
 abbrev pub decreases-loop-at : goal.decreases-loop-at

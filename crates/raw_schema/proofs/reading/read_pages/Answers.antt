@@ -1,36 +1,45 @@
-use Rattle.std.proofs.Common.{ℕ, List, ap, arith, get_or, length}
-use Rattle.raw_schema.proofs.Turns.{going_start, going_more, going_bad, going_moves, going_small}
+use Rattle.std.proofs.Common.{◌≡◌, ◌+◌, ◌∙◌, List, ℕ, ap, length, map, refl, subst, arith, sym}
+use Rattle.std.proofs.lemmas.List.{length-map}
+use Rattle.std.specs.List.{flat_map}
+use Rattle.page_walk.specs.Cells.{Outcome}
+use Rattle.page_walk.specs.InTurn.{turn_of}
+use Rattle.page_walk.specs.Turns.{ReadsEach}
+use Rattle.page_walk.proofs.InTurn.{at_err, reads_weaker}
+use Rattle.raw_schema.specs.Schema.{bad_in, cells_in, entries_in, noted}
+use Rattle.raw_schema.proofs.Small.{schema_small}
+use Rattle.raw_schema.proofs.Turns.{evidence_of_turns, of_turns, table_of_turns, turns_few}
 use Rattle.raw_schema.proofs.reading.read_pages.Goals as goal
 
-pub loop-page-init : goal.loop-page-init
-loop-page-init g c =
-    going_start _ _ _ _ _ _ _ _ _ _ _ c.requires.same_pages c.requires.lists c.new-rows.ensures.items c.new-bad.ensures.items
-    c.new-notes.ensures.items
+pub sort_turns-requires : goal.sort_turns-requires
+sort_turns-requires g c =
+    turns_few c.args.geo.now.usable c.args.geo.now.pages c.in_ok-turns.turns.items (omega (arith, c.args.geo.now.usable_most, c.args.geo.now.size_most))
+    c.in_ok-turns.ensures.small
 
-pub loop-page-preserved : goal.loop-page-preserved
-loop-page-preserved g c =
-    going_more c.read_cells.new.src c.read_cells.new.table (get_or c.deref-page-items.result.now c.loop-page.page-index 0)
-    c.new-cells.result.items c.read_cells.new.to.items c.in_ok-unread.unread c.sort_out.new.rows.items c.sort_out.new.bad.items
-    c.note.new.to.items c.loop-page.invariant c.requires.pages
-    (ap (λ (ps : List ℕ). get_or ps c.loop-page.page-index 0) c.deref-page-items.ensures.value)
-    (omega (arith, c.loop-page-test.true, ap length c.deref-page-items.ensures.value)) c.new-cells.ensures.items
-    c.in_ok-unread.ensures.rows c.in_ok-unread.ensures.evidence c.in_ok-unread.ensures.notes c.in_ok-unread.ensures.table
-    c.in_ok-unread.ensures.adds c.in_ok-unread.ensures.kept c.in_ok-unread.ensures.moves c.in_ok-unread.ensures.reads
-    c.in_ok-sort_out.ensures.rows c.in_ok-sort_out.ensures.bad c.in_ok-note.ensures
+pub returns-clause-rows : goal.returns-clause-rows
+returns-clause-rows g c =
+    of_turns (λ (ts : List (ℕ × List Outcome)). entries_in (cells_in ts)) _ c.args.geo.now c.args.pages.items c.deref.result.now _ (map turn_of c.in_ok-turns.turns.items) _
+    c.deref.ensures.value c.in_ok-turns.ensures.value c.in_ok-sort_turns.ensures.rows
 
 pub returns-clause-bad : goal.returns-clause-bad
-returns-clause-bad g c = going_bad c.loop-page.invariant (omega (arith, ap length c.deref-page-items.ensures.value))
+returns-clause-bad g c =
+    of_turns (λ (ts : List (ℕ × List Outcome)). bad_in (cells_in ts)) _ c.args.geo.now c.args.pages.items c.deref.result.now _ (map turn_of c.in_ok-turns.turns.items) _
+    c.deref.ensures.value c.in_ok-turns.ensures.value c.in_ok-sort_turns.ensures.bad
+
+pub returns-clause-notes : goal.returns-clause-notes
+returns-clause-notes g c =
+    of_turns (λ (ts : List (ℕ × List Outcome)). flat_map noted ts) _ c.args.geo.now c.args.pages.items c.deref.result.now _ (map turn_of c.in_ok-turns.turns.items) _
+    c.deref.ensures.value c.in_ok-turns.ensures.value c.in_ok-sort_turns.ensures.notes
+
+pub returns-clause-evidence : goal.returns-clause-evidence
+returns-clause-evidence g c = evidence_of_turns _ c.args.geo.now c.args.pages.items c.args.table.now c.requires.pages c.requires.partition c.requires.same_pages
+
+pub returns-clause-table : goal.returns-clause-table
+returns-clause-table g c =
+    table_of_turns _ c.args.geo.now c.args.pages.items c.deref.result.now c.args.table.now c.read_turns.new.table (map turn_of c.in_ok-turns.turns.items)
+    c.deref.ensures.value c.in_ok-turns.ensures.value c.in_ok-turns.ensures.moved
 
 pub returns-clause-small : goal.returns-clause-small
 returns-clause-small g c =
-    going_small c.loop-page.invariant
-    (omega (arith, c.loop-page.auto.page-index-end, ap length c.deref-page-items.ensures.value)) c.requires.pages
-
-pub returns-in_err-unread-clause-moves : goal.returns-in_err-unread-clause-moves
-returns-in_err-unread-clause-moves g c = going_moves c.read_cells.new.table c.loop-page.invariant c.read_cells.ensures.moves
-
-pub returns-in_err-sort_out-clause-moves : goal.returns-in_err-sort_out-clause-moves
-returns-in_err-sort_out-clause-moves g c = going_moves c.read_cells.new.table c.loop-page.invariant c.read_cells.ensures.moves
-
-pub returns-in_err-note-clause-moves : goal.returns-in_err-note-clause-moves
-returns-in_err-note-clause-moves g c = going_moves c.read_cells.new.table c.loop-page.invariant c.read_cells.ensures.moves
+    schema_small c.args.geo.now.usable c.args.geo.now.pages (map turn_of c.in_ok-turns.turns.items) _ _ c.args.pages.items _ c.in_ok-turns.ensures.small
+    (length-map c.in_ok-turns.turns.items turn_of ∙ c.in_ok-turns.ensures.len ∙ ap length c.deref.ensures.value) c.in_ok-sort_turns.ensures.pages
+    c.requires.pages c.in_ok-sort_turns.ensures.rows c.in_ok-sort_turns.ensures.bad

@@ -7,4 +7,8 @@ pub loop-i-preserved : goal.loop-i-preserved
 loop-i-preserved g c =
     let more = pieces_len body_of (g.F.Fields.values c.args.values.now) c.loop-i.i c.field.result.now (omega arith) c.field.ensures in
     let sum = text_sum (g.F.Fields.values c.args.values.now) c.loop-i.i c.field.result.now (omega arith) c.field.ensures in
-    (omega (arith, c.loop-i.invariant.0, more, c.body_size-total.ensures.value), omega (arith, c.loop-i.invariant.1, sum, c.body_size-total.ensures.bound))
+    record {
+      value = omega (arith, c.loop-i.invariant.value, more, c.body_size.ensures.value);
+      most = omega (arith, c.loop-i.invariant.most, sum, c.body_size.ensures.bound);
+      fits = omega (arith, c.loop-i.invariant.fits);
+    }

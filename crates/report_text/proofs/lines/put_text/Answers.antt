@@ -2,7 +2,7 @@ use Rattle.std.proofs.Common.{◌++◌, append_assoc, sym}
 use Rattle.std.specs.Prelude.{codes}
 use Rattle.hex.specs.Hex.{encode_lower}
 use Rattle.page_access.proofs.Gains.{front_as, front_last, front_out, front_start, front_step}
-use Rattle.dbdata_list.specs.Text.{newline}
+use Rattle.line_text.specs.Text.{newline}
 use Rattle.report_text.proofs.lines.put_text.Goals as goal
 
 pub returns-in_err-put_behind-clause-writes : goal.returns-in_err-put_behind-clause-writes

@@ -2,7 +2,7 @@ use Rattle.std.specs.List.{flat_map}
 use Rattle.std.proofs.lemmas.Grind.{flat_map-append}
 use Rattle.page_access.proofs.Gains.{front_as, front_last, front_out, front_step}
 use Rattle.page_access.proofs.Keeps.{KeepsSink-trans}
-use Rattle.dbdata_list.proofs.Pieces.{split_text}
+use Rattle.line_text.proofs.Joined.{split_text}
 use Rattle.report_text.specs.Names.{esc_byte}
 use Rattle.report_text.proofs.names.put_bytes.Goals as goal
 

@@ -12,4 +12,4 @@ invariant-loop-cell g l =
     let s = g.R.Sink in
     WroteFront (s.bytes l.initial.to) (s.bytes l.to) (s.faults l.initial.to) (s.faults l.to)
     (flat_map bad_line (map row_of (drop l.cell-index l.cells))) (flat_map bad_line (map row_of l.cells))
-    × KeepsSink s.created s.faults l.initial.to l.to
+    × KeepsSink s.created s.finished s.faults l.initial.to l.to

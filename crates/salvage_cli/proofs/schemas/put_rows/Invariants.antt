@@ -11,4 +11,4 @@ invariant-loop-row g l =
     let s = g.R.Sink in
     WroteFront (s.bytes l.initial.to) (s.bytes l.to) (s.faults l.initial.to) (s.faults l.to)
     (flat_map row_line (into_iter_items l.row-iterator)) (flat_map row_line l.fn.rows.items)
-    × KeepsSink s.created s.faults l.initial.to l.to
+    × KeepsSink s.created s.finished s.faults l.initial.to l.to

@@ -1,0 +1,7 @@
+use Rattle.std.proofs.Common.{◌-◌}
+use Rattle.create_grammar.specs.Grammar.{constraint}
+use Rattle.create_grammar.proofs.Many.{Rest}
+use Rattle.create_grammar.proofs.pass.Pass.constraints.Given as goal
+
+abbrev pub invariant-loop-turn : goal.invariant-loop-turn
+invariant-loop-turn l = Rest constraint (l._turn-end - l._turn) l.fn.self l.self

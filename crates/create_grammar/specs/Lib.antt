@@ -1,0 +1,7 @@
+pub mod Words
+pub mod Sorts
+pub mod Roles
+pub mod Classes
+pub mod Grammar
+pub mod Pass
+pub mod Said

@@ -1,0 +1,4 @@
+pub mod Holds
+pub mod Valid
+pub mod Parts
+pub mod One

@@ -1,0 +1,6 @@
+use Rattle.std.proofs.Common.{◌≡◌, drop, map}
+use Rattle.create_reader.specs.Meaning.{primary_in}
+use Rattle.create_reader.proofs.meaning.primary_in.Given as goal
+
+abbrev pub invariant-loop-c : goal.invariant-loop-c
+invariant-loop-c l = primary_in l.columns (map (λ k. k.now) (drop l.c-index l.taken)) ≡ primary_in l.columns (map (λ k. k.now) l.taken)

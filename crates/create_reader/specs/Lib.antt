@@ -1,0 +1,9 @@
+pub mod Names
+pub mod Columns
+pub mod Constraints
+pub mod Numbers
+pub mod Faults
+pub mod Meaning
+pub mod Views
+pub mod Outcome
+pub mod Laws

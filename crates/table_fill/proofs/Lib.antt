@@ -1,0 +1,9 @@
+pub mod Cells
+pub mod Clashing
+pub mod Entries
+pub mod Good
+pub mod Inserting
+pub mod Named
+pub mod Ordering
+pub mod Staying
+pub mod Taking

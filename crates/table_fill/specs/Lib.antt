@@ -1,0 +1,4 @@
+pub mod Fates
+pub mod Chosen
+pub mod Maps
+pub mod Laws

@@ -6,8 +6,7 @@ ghost use Rattle.tree_writer.specs.Page.{slot};
 ghost use Rattle.tree_writer.specs.Plan.{laid_by};
 
 use crate::bytes::{put, put_u32, put_varint, put_zeros};
-use crate::sizes::local_size;
-use cell_reader::Kind;
+use cell_reader::{Kind, local_size};
 
 /// A cell but its payload: the page of its child, the 64 bits of its rowid or key, and the page of the
 /// first byte that is not local.

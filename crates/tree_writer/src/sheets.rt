@@ -17,8 +17,8 @@ use crate::cells::{Cell, put_cell};
 use crate::entries::Entries;
 use crate::numbering::Numbering;
 use crate::plans::PagePlan;
-use crate::sizes::{Size, local_size, payload_size, raw_of, size_of};
-use cell_reader::Kind;
+use crate::sizes::{Size, payload_size, raw_of, size_of};
+use cell_reader::{Kind, local_size};
 
 /// A page of a plan, with what its cells are made of.
 #[derive(Drop)]

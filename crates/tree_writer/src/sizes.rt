@@ -1,13 +1,12 @@
 //! The lengths of cells, and how many overflow pages they have.
 
 ghost use Rattle.std.specs.Prelude.{◌≡◌, ◌≤◌, ◌<◌, ◌^◌, ◌+◌, ◌-◌, ◌/◌, length};
-ghost use Rattle.cell_reader.specs.Cell.{least_local, local_len, most_local};
 ghost use Rattle.tree_writer.specs.Cells.{cell_len, numbers_of_lens, over_count, payload_len, slot_len};
 ghost use Rattle.tree_writer.specs.Entry.{entry_at, raw_of};
 ghost use Rattle.tree_writer.specs.Plan.{part_of, size_for};
 
 use crate::entries::Entries;
-use cell_reader::Kind;
+use cell_reader::{Kind, local_size};
 use varint_core::varint_len;
 
 /// What a cell takes: bytes of its page, with its pointer, and overflow pages.
@@ -15,38 +14,6 @@ use varint_core::varint_len;
 pub struct Size {
     pub need: u32,
     pub overs: u32,
-}
-
-// Most local bytes of a payload without overflow pages.
-fn most_local_len(kind: Kind, usable: u32) -> u32
-    requires least { 480 ≤ usable }
-    requires most { usable ≤ 65536 }
-    ensures value { result ≡ most_local kind usable }
-    ensures more { least_local usable ≤ result }
-    ensures fits { result + 35 ≤ usable }
-{
-    match kind {
-        Kind::Table => usable - 35,
-        Kind::Index => (usable - 12) * 64 / 255 - 23,
-    }
-}
-
-// Local bytes of a payload.
-#[tactic(auto, unfolding(cell_reader::specs::Cell::local_len))]
-pub(crate) fn local_size(kind: Kind, usable: u32, total: u64) -> u64
-    requires least { 480 ≤ usable }
-    requires most { usable ≤ 65536 }
-    ensures value { result ≡ local_len kind usable total }
-    ensures within { result ≤ total }
-    ensures fits { result < usable }
-{
-    let most = u64::from(most_local_len(kind, usable));
-    if total <= most {
-        return total;
-    }
-    let least = u64::from((usable - 12) * 32 / 255 - 23);
-    let wanted = least + (total - least) % u64::from(usable - 4);
-    if wanted <= most { wanted } else { least }
 }
 
 // The 64 bits of a rowid or key, as a cell spells them.

@@ -11,3 +11,4 @@ pub mod Adding
 pub mod Raising
 pub mod Planning
 pub mod Writing
+pub mod Alike

@@ -364,6 +364,7 @@ impl TreePlan {
 
     /// The number of pages, overflow pages among them.
     pub fn page_count(&self) -> u32
+        ensures value { result ≡ self.now.count }
         ensures tree { (usable : ℕ) (kind : Kind) (es : List Entry) → IsTreePlan usable kind es self.now
             → result ≡ tree_count usable kind es }
         ensures schema { (usable : ℕ) (es : List Entry) → IsSchemaPlan usable es self.now

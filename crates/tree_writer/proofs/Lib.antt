@@ -1,0 +1,14 @@
+pub mod Lists
+pub mod Grouping
+pub mod Items
+pub mod Laying
+pub mod Lens
+pub mod Chaining
+pub mod Cuts
+pub mod Rising
+pub mod Needs
+pub mod Adding
+pub mod Raising
+pub mod Planning
+pub mod Writing
+pub mod Alike

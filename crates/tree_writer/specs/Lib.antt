@@ -1,0 +1,11 @@
+pub mod Alike
+pub mod Cells
+pub mod Entry
+pub mod Groups
+pub mod Layout
+pub mod Levels
+pub mod Numbers
+pub mod Page
+pub mod Plan
+pub mod Planned
+pub mod Trees

@@ -3,6 +3,7 @@ pub mod Cells
 pub mod Evidence
 pub mod InTurn
 pub mod Kinds
+pub mod Laws
 pub mod Page
 pub mod Pointers
 pub mod Reach

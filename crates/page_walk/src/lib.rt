@@ -18,7 +18,9 @@ mod walks;
 
 pub use causes::CellCause;
 pub use cells::{cells_of, cells_with};
-pub use laws::{children_are_named, walk_is_tree};
+pub use laws::{
+    cells_rise, chains_are_unused, children_are_named, turns_go_on, walk_is_tree, walks_are_unused,
+};
 pub use named::{pointers, pointers_with};
 pub use outcomes::{CellOutcome, Place, TakenCell};
 pub use rows::{PageNotes, read_cells, sort_outcomes};

@@ -2,3 +2,4 @@ pub mod Turns
 pub mod Steps
 pub mod Many
 pub mod Told
+pub mod ClassTests

@@ -46,7 +46,6 @@ class_of class.OrderWord = codes_of (Asc ∷ Desc ∷ [])
 class_of class.ActionWord = codes_of (On ∷ Match ∷ [])
 class_of class.OptionWord = codes_of (Without ∷ Strict ∷ [])
 class_of class.BodyWord = codes_of body_words
-class_of class.TableWord = codes_of (Constraint ∷ body_words)
-class_of class.GeneratedWord = codes_of (Generated ∷ As ∷ [])
 class_of class.DeferWord = codes_of (Not ∷ Deferrable ∷ [])
-class_of class.ConstraintWord = codes_of (Constraint ∷ Not ∷ Null ∷ Primary ∷ Unique ∷ Check ∷ Default ∷ Collate ∷ References ∷ Deferrable ∷ Generated ∷ As ∷ [])
+class_of class.ConstraintWord = codes_of (Constraint ∷ Not ∷ Null ∷ Primary ∷ Unique ∷ Check ∷ Default
+    ∷ Collate ∷ References ∷ Deferrable ∷ Generated ∷ As ∷ [])

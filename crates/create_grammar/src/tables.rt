@@ -37,7 +37,8 @@ impl Pass<'_> {
     }
 
     fn parts(&mut self) -> Result<(), Stop>
-        ensures { Reads (runs (role_code role.Other) (class_of (One sort.Comma)) column table_constraint) self.old self.new result }
+        ensures { Reads (runs (role_code role.Other) (class_of (One sort.Comma)) column
+            table_constraint) self.old self.new result }
     {
         for _turn in self.at..self.sorts.len() {
             if !self.next_is(Class::One(Sort::Comma)) {
@@ -222,7 +223,8 @@ impl Pass<'_> {
     }
 
     fn maybe_collation(&mut self) -> Result<(), Stop>
-        ensures { Reads (maybe (as_a role.KeyMark (One sort.Collate) ▷ a Name)) self.old self.new result }
+        ensures { Reads (maybe (as_a role.KeyMark (One sort.Collate) ▷ a Name))
+            self.old self.new result }
     {
         if self.next_is(Class::One(Sort::Collate)) {
             self.collation()
@@ -288,7 +290,8 @@ impl Pass<'_> {
     }
 
     fn without_rowid(&mut self) -> Result<(), Stop>
-        ensures { Reads (as_a role.WithoutRowid (One sort.Without) ▷ one sort.Rowid) self.old self.new result }
+        ensures { Reads (as_a role.WithoutRowid (One sort.Without) ▷ one sort.Rowid)
+            self.old self.new result }
     {
         self.word(Role::WithoutRowid, Class::One(Sort::Without))?;
         self.word(Role::Other, Class::One(Sort::Rowid))

@@ -86,7 +86,8 @@ fn has_bad_list(table: &TableText) -> bool
 }
 
 fn bad_list(columns: &[ColumnText], names: &[Bytes]) -> bool
-    ensures { result ≡ ((length names.now == 0) || (list_any (λ name. is_none (column_named columns.now name)) names.now
+    ensures { result ≡ ((length names.now == 0)
+        || (list_any (λ name. is_none (column_named columns.now name)) names.now
         || has_repeat names.now)) }
 {
     names.is_empty() || names_no_column(columns, names) || has_repeat(names)
@@ -188,7 +189,8 @@ fn integer_beside_keys(table: &TableText, taken: &[&ConstraintText]) -> bool
 }
 
 fn has_integer_primary(table: &TableText) -> bool
-    ensures { result ≡ list_any (λ c. c.primary && single_integer table.now.columns.items c) table.now.constraints.items }
+    ensures { result ≡ list_any (λ c. c.primary && single_integer table.now.columns.items c)
+        table.now.constraints.items }
 {
     let columns = table.columns.as_slice();
     for c in table.constraints.as_slice() {

@@ -48,7 +48,13 @@ impl ConstraintText {
         marked: bool,
         auto: bool,
     ) -> ConstraintText
-        ensures { result ≡ record { primary = primary; own = own; names = names.items; marked = marked; auto = auto } }
+        ensures { result ≡ record {
+          primary = primary;
+          own = own;
+          names = names.items;
+          marked = marked;
+          auto = auto;
+        } }
     {
         ConstraintText {
             primary,

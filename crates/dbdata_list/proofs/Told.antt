@@ -1,12 +1,18 @@
 -- Listings page by page, where the source tells its bytes.
-use Rattle.std.proofs.Common.{◌≡◌, ap, arith, ℕ, suc, ◌+◌, ◌-◌, ◌<◌, ◌≤◌, List, [], ◌++◌, Option, Some, None, Result, Ok, Err, IsErr, IsErrAnd, IsErrOf, sym, subst}
+use Rattle.std.proofs.Common.{◌≡◌, inl, map, ◌∙◌, ap, arith, ℕ, suc, ◌+◌, ◌-◌, ◌<◌, ◌≤◌, List, [], ◌++◌, Option, Some, None, Result, Ok, Err, IsErr, IsErrAnd, IsErrOf, sym, subst}
 use Rattle.std.specs.Prelude.{IfSome}
-use Rattle.page_access.specs.Outside.{WritesOf}
+use Rattle.page_access.specs.Files.{file_of}
+use Rattle.page_access.specs.Outside.{GainsPrefix, Writes, WritesOf}
+use Rattle.page_access.specs.declared.geometry.Geometry.{Geometry}
+use Rattle.page_walk.specs.Cells.{outcome_of, outcomes_on}
+use Rattle.page_walk.specs.declared.outcomes.CellOutcome.{CellOutcome}
+use Rattle.dbdata_list.specs.declared.faults.ListFault.{ListFault}
+use Rattle.dbdata_list.specs.Text.{outcomes_text}
 use Rattle.page_access.specs.declared.outside.ReadFault.{ReadFault}
 use Rattle.page_access.specs.declared.outside.ReadFault.TheVariants as reads
 use Rattle.dbdata_list.specs.declared.faults.ListFault.TheVariants.{Sink}
 use Rattle.dbdata_list.specs.Faults.{of_read}
-use Rattle.dbdata_list.specs.Listing.{pages_text}
+use Rattle.dbdata_list.specs.Listing.{page_data, pages_text}
 use Rattle.page_access.proofs.Gains.{WroteFront, front_as, front_end_of, front_left, front_out_from, front_start, front_step_of}
 
 -- of the text that the told bytes give, a front is written and a rest is still to come
@@ -82,3 +88,26 @@ told_left r fault (Some bytes) old f all is other = front_left fault is other (f
 pub read_is_not_sink : (fault : ReadFault) → of_read fault ≡ Sink → ⊥
 read_is_not_sink reads.Source e = cc
 read_is_not_sink reads.Memory e = cc
+
+-- a text was put in part: it is the one that the told bytes give
+pub put_failed : {T T' E : Type 0} (e : E) (r : Result T' ListFault) (told old new : Option (List ℕ)) (f g : ℕ) (text : List ℕ) (all : List ℕ → List ℕ) →
+    IsErr r → IsErrOf r Sink → IfSome told (λ bytes. text ≡ all bytes) → Writes {T = T} {E = E} old new f g text (Err e)
+    → IfSome told (λ bytes. WritesOf Sink old new f g (all bytes) r)
+put_failed e (Ok x) told old new f g text all is of same w = absurd cc
+put_failed e (Err x) None old new f g text all is of same w = tt
+put_failed e (Err x) (Some bytes) old new f g text all is of same w = record {
+  later = w.later;
+  ok = tt;
+  err = subst (λ (t : List ℕ). GainsPrefix old new t) same w.err;
+  failed = λ _. w.failed;
+  steady = inl of;
+}
+
+-- what was read of a page are its lines
+pub cells_told : (told : Option (List ℕ)) (geo : Geometry) (page : ℕ) (unused : List ℕ) (none cells shown : List CellOutcome) → none ≡ [] → shown ≡ cells
+    → IfSome told (λ all. map outcome_of cells ≡ map outcome_of none ++ outcomes_on (file_of all geo) page unused)
+    → IfSome told (λ all. outcomes_text page (map outcome_of shown) ≡ page_data (file_of all geo) page unused)
+cells_told None geo page unused none cells shown empty same value = tt
+cells_told (Some all) geo page unused none cells shown empty same value =
+    ap (λ (os : List CellOutcome). outcomes_text page (map outcome_of os)) same
+    ∙ ap (outcomes_text page) (value ∙ ap (λ (os : List CellOutcome). map outcome_of os ++ outcomes_on (file_of all geo) page unused) empty)

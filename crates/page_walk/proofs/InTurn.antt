@@ -119,11 +119,10 @@ stepping_start s geo k xs m cached = record {
   value = always_told (λ all. in_turn (k.give all) k.taken xs (unused m.table) ≡ in_turn (k.give all) k.taken xs (unused m.table)) (s.bytes m.src) (λ all. refl);
 }
 
--- the same where nothing is done yet
-pub stepping_begins : {S A X : Type 0} (s : source.Ghosts S) (geo : Geometry) (k : Steps A X) (xs : List A) (m : Moment S)
-    (done : List X) → done ≡ [] → IsCacheOf (s.bytes m.src) geo m.cache → Stepping s geo k xs xs m m done
-stepping_begins {S} {A} {X} s geo k xs m done none cached =
-    subst (λ (ds : List X). Stepping s geo k xs xs m m ds) (sym none) (stepping_start s geo k xs m cached)
+-- nothing is done yet, as a list of the program
+pub stepping_none : {S A X : Type 0} (s : source.Ghosts S) (geo : Geometry) (k : Steps A X) (xs : List A) (m : Moment S) (done : List X)
+    → done ≡ [] → IsCacheOf (s.bytes m.src) geo m.cache → Stepping s geo k xs xs m m done
+stepping_none s geo k xs m done none cached = subst (Stepping s geo k xs xs m m) (sym none) (stepping_start s geo k xs m cached)
 
 times_more : (k n : ℕ) → k * n + k ≡ k * (n + 1)
 times_more k n = grind arith

@@ -23,9 +23,7 @@ use crate::rows::SchemaRow;
 use cell_reader::Kind;
 use page_access::{Geometry, PageCache, ReadFault, Source};
 use page_lists::PageTable;
-use page_walk::{
-    PageKinds, PageNotes, PageTurn, TakenCell, read_turns, sort_outcomes, walk_tree,
-};
+use page_walk::{PageKinds, PageNotes, PageTurn, TakenCell, read_turns, sort_outcomes, walk_tree};
 use std::alloc::{AllocError, Global};
 
 /// The schema of a file. Rows, bad cells and notes are in page order of the schema's tree and then cell
@@ -144,11 +142,7 @@ fn read_pages<S: Source>(
 }
 
 // The rows of the schema among the cells of these pages, its other readable cells, and notes of the unread ones.
-fn sort_turns(
-    alloc: Global,
-    turns: Vec<PageTurn>,
-    pages: Vec<u32>,
-) -> Result<RawSchema, AllocError>
+fn sort_turns(alloc: Global, turns: Vec<PageTurn>, pages: Vec<u32>) -> Result<RawSchema, AllocError>
     requires { AllByRecursion (λ t. length t.outcomes.items ≤ 32768) turns.items }
     ensures rows { IfOk result
         (λ s. s.rows.items ≡ entries_in (cells_in (map turn_of turns.items))) }

@@ -122,7 +122,8 @@ fn first_of(alloc: Global, shape: &TableShape) -> Result<Vec<KeyPart>, AllocErro
 }
 
 fn all_keys(alloc: Global, shape: &TableShape) -> Result<Vec<KeyPlan>, AllocError>
-    ensures { IfOk result (λ v. map parts_seen v.items ≡ map (parts_of (shape_seen shape.now)) (map key_seen shape.now.keys.items)) }
+    ensures { IfOk result (λ v. map parts_seen v.items
+        ≡ map (parts_of (shape_seen shape.now)) (map key_seen shape.now.keys.items)) }
 {
     let mut plans = Vec::new(alloc);
     for key in shape.keys.as_slice() {

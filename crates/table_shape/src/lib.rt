@@ -1,4 +1,5 @@
-//! The shape of a table, its keys, and the rows that fit it (docs/FORMAT.md, "The shape of a table").
+//! The shape of a table, its keys, and the rows that fit it
+//! (docs/FORMAT.md, "The shape of a table").
 #![tactic(auto)]
 
 mod columns;

@@ -72,7 +72,8 @@ fn is_real(columns: &[Column], number: u32) -> bool
 }
 
 fn any_key_real(columns: &[Column], keys: &[Key]) -> bool
-    ensures { result ≡ list_any (λ key. list_any (is_real columns.now) key.columns) (map key_seen keys.now) }
+    ensures { result ≡ list_any (λ key. list_any (is_real columns.now) key.columns)
+        (map key_seen keys.now) }
 {
     for key in keys {
         if any_real(columns, key.columns.as_slice()) {

@@ -42,7 +42,7 @@ or_assoc false b c = refl
 
 -- ---- classes
 
-has_append : (a b : List ℕ) (w : ℕ) → has (a ++ b) w ≡ (has a w || has b w)
+pub has_append : (a b : List ℕ) (w : ℕ) → has (a ++ b) w ≡ (has a w || has b w)
 has_append [] b w = refl
 has_append (c ∷ a) b w = ap (λ t. nat_eq w c || t) (has_append a b w) ∙ or_assoc (nat_eq w c) (has a w) (has b w)
 

@@ -1,4 +1,5 @@
-//! Grammars by words, and their reading by one word of sight (docs/CREATE_TABLE.md, "How a grammar is written").
+//! Grammars by words, and their reading by one word of sight
+//! (docs/CREATE_TABLE.md, "How a grammar is written").
 #![tactic(auto)]
 
 ghost use Rattle.word_grammar.specs.Law.{IsVerdict};

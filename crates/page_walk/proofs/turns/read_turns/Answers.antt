@@ -1,17 +1,17 @@
-use Rattle.std.proofs.Common.{◌≡◌, ℕ, false, ◌+◌, ◌*◌, ◌∷◌, [], ◌∙◌, ap, length, map, drop, get_or, subst, arith, length-drop}
+use Rattle.std.proofs.Common.{◌≡◌, false, ℕ, ◌+◌, ◌*◌, ◌∷◌, [], ◌∙◌, ap, length, map, drop, get_or, subst, arith, length-drop}
 use Rattle.std.proofs.lemmas.List.{drop_all, drop_more, length-map, length-replicate, map-append}
 use Rattle.page_access.specs.Cache.{HasAll}
 use Rattle.page_access.proofs.Keeps.{not_failed}
 use Rattle.page_lists.proofs.Uses.{Moves-append}
 use Rattle.page_walk.specs.InTurn.{turn_of}
 use Rattle.page_walk.specs.Turns.{ReadsEach}
-use Rattle.page_walk.proofs.InTurn.{at_err, reads_weaker, stepping_more, stepping_begins, stepping_value, stepping_reads, stepping_full}
+use Rattle.page_walk.proofs.InTurn.{at_err, reads_weaker, stepping_none, stepping_more, stepping_value, stepping_reads, stepping_full}
 use Rattle.page_walk.proofs.turns.read_turns.Goals as goal
 
 pub loop-page-init : goal.loop-page-init
 loop-page-init g c = record {
   marks = ap length c.in_ok-accepted.ensures ∙ length-replicate c.args.geo.now.usable false;
-  stepping = stepping_begins _ _ _ _ _ _ (ap (map turn_of) c.in_ok-turns.ensures.items) c.requires.cached;
+  stepping = stepping_none g.S.Source _ _ _ _ (map turn_of c.in_ok-turns.turns.items) (ap (map turn_of) c.in_ok-turns.ensures.items) c.requires.cached;
 }
 
 pub loop-page-preserved : goal.loop-page-preserved

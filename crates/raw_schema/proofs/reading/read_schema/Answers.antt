@@ -62,15 +62,19 @@ read_pages-requires-clause-partition g c =
 
 pub returns-in_err-pages-clause-full : goal.returns-in_err-pages-clause-full
 returns-in_err-pages-clause-full g c = λ all.
-    let step = c.in_err-pages.ensures.full all in
-    (step.0, no_chains c.from_residual.result _ c.args.geo.now c.args.table.now c.walk_tree.new.table _ _ 1 c.pages-pages.ensures.partition c.requires.lists
-        c.walk_tree.ensures.moves (ap g.S.Source.reads step.1))
+    let step = c.in_err-pages.ensures.full all in (
+      step.0,
+      no_chains c.from_residual.result _ c.args.geo.now c.args.table.now c.walk_tree.new.table _ _ 1 c.pages-pages.ensures.partition c.requires.lists
+          c.walk_tree.ensures.moves (ap g.S.Source.reads step.1),
+    )
 
 pub returns-clause-full : goal.returns-clause-full
 returns-clause-full g c = λ all.
     let step = c.in_ok-pages.ensures.full all in
-    let last = c.read_pages.ensures.full step.0 in
-    (last.0, chains_read _ _ c.args.geo.now c.args.table.now c.walk_tree.new.table c.read_pages.new.table _ _ _ _ c.walk_tree.ensures.kept.told
-        c.pages-pages.ensures.partition (Moves-partition SCHEMA_LIST c.args.table.now c.walk_tree.new.table (omega arith) (omega (arith, c.requires.lists)) c.walk_tree.ensures.moves
-        c.pages-pages.ensures.partition) c.requires.lists c.walk_tree.ensures.moves c.read_pages.ensures.moves
-        (ap g.S.Source.reads step.1) last.1)
+    let last = c.read_pages.ensures.full step.0 in (
+      last.0,
+      chains_read _ _ c.args.geo.now c.args.table.now c.walk_tree.new.table c.read_pages.new.table _ _ _ _ c.walk_tree.ensures.kept.told
+          c.pages-pages.ensures.partition (Moves-partition SCHEMA_LIST c.args.table.now c.walk_tree.new.table (omega arith) (omega (arith, c.requires.lists)) c.walk_tree.ensures.moves
+          c.pages-pages.ensures.partition) c.requires.lists c.walk_tree.ensures.moves c.read_pages.ensures.moves
+          (ap g.S.Source.reads step.1) last.1,
+    )

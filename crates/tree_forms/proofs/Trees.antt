@@ -30,11 +30,12 @@ one_depth node kind r r' (suc d) (suc d') p a b =
     let left = row_last (IsTree node kind r d) a.0.cells (number_in a.0.right) a.3 in
     let right = row_last (IsTree node kind r' d') b.0.cells (number_in b.0.right) b.3 in
     let moved : IsTree node kind r' d' (number_in a.0.right)
-          = subst (λ (n : Node). IsTree node kind r' d' (number_in n.right)) same right in
+    = subst (λ (n : Node). IsTree node kind r' d' (number_in n.right)) same right in
     ap suc (one_depth node kind r r' d d' (number_in a.0.right) left moved)
 
 pub one_tree : OneTree
 one_tree node own kind p items items' pages pages' a b =
-    let same = one_depth node kind p p a.depth b.depth p a.is_tree b.is_tree in
-    (a.items_are ∙ ap (λ d. items_of node d p) same ∙ sym b.items_are,
-      a.pages_are ∙ ap (λ d. pages_of node own d p) same ∙ sym b.pages_are)
+    let same = one_depth node kind p p a.depth b.depth p a.is_tree b.is_tree in (
+      a.items_are ∙ ap (λ d. items_of node d p) same ∙ sym b.items_are,
+      a.pages_are ∙ ap (λ d. pages_of node own d p) same ∙ sym b.pages_are,
+    )

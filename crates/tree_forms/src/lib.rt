@@ -4,4 +4,4 @@
 
 mod laws;
 
-pub use laws::{a_root_has_one_tree, a_page_says_its_accepted_cells};
+pub use laws::{a_page_says_its_accepted_cells, a_root_has_one_tree};

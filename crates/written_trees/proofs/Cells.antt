@@ -44,18 +44,18 @@ behind_back Table true c child front rest r b =
     let s2 = spell c.rowid in
     let bytes : List ℕ = front ++ ((s1 ++ s2) ++ rest) in
     let one : varint_at (drop (length front) bytes) ≡ Some (length c.body, length s1)
-      = ap varint_at (drop-append_seam front ((s1 ++ s2) ++ rest) ∙ append_assoc s1 s2 rest) ∙ varint_back (length c.body) (s2 ++ rest) b in
+    = ap varint_at (drop-append_seam front ((s1 ++ s2) ++ rest) ∙ append_assoc s1 s2 rest) ∙ varint_back (length c.body) (s2 ++ rest) b in
     let two : varint_at (drop (length front + length s1) bytes) ≡ Some (c.rowid, length s2)
-      = ap varint_at (drop-append-add front ((s1 ++ s2) ++ rest) (length s1) ∙ ap (drop (length s1)) (append_assoc s1 s2 rest) ∙ drop-append_seam s1 (s2 ++ rest)) ∙ varint_back c.rowid rest r in
+    = ap varint_at (drop-append-add front ((s1 ++ s2) ++ rest) (length s1) ∙ ap (drop (length s1)) (append_assoc s1 s2 rest) ∙ drop-append_seam s1 (s2 ++ rest)) ∙ varint_back c.rowid rest r in
     let len : length front + length s1 + length s2 ≡ length front + length (s1 ++ s2) = omega (arith, length-append s1 s2) in
     rw (one, two, len) refl
 behind_back Table false c child front rest r b =
     let one : varint_at (drop (length front) (front ++ (spell c.rowid ++ rest))) ≡ Some (c.rowid, length (spell c.rowid))
-      = ap varint_at (drop-append_seam front (spell c.rowid ++ rest)) ∙ varint_back c.rowid rest r in
+    = ap varint_at (drop-append_seam front (spell c.rowid ++ rest)) ∙ varint_back c.rowid rest r in
     rw one refl
 behind_back Index leaf c child front rest r b =
     let one : varint_at (drop (length front) (front ++ (spell (length c.body) ++ rest))) ≡ Some (length c.body, length (spell (length c.body)))
-      = ap varint_at (drop-append_seam front (spell (length c.body) ++ rest)) ∙ varint_back (length c.body) rest b in
+    = ap varint_at (drop-append_seam front (spell (length c.body) ++ rest)) ∙ varint_back (length c.body) rest b in
     rw one refl
 
 -- the numbers of a cell, as they are read
@@ -79,14 +79,14 @@ numbers_back kind false c rest k r b =
     let apart : head_part kind false c ++ rest ≡ child ++ (number_part kind false c ++ rest) = append_assoc child (number_part kind false c) rest in
     let four : length child ≡ 4 = length-bytes_high_first 4 c.child in
     let long : nat_lt (length (head_part kind false c ++ rest)) 4 ≡ false
-      = not_short (length (head_part kind false c ++ rest)) (omega (arith, ap length apart, length-append child (number_part kind false c ++ rest), four)) in
+    = not_short (length (head_part kind false c ++ rest)) (omega (arith, ap length apart, length-append child (number_part kind false c ++ rest), four)) in
     let number : big_number 4 (head_part kind false c ++ rest) ≡ c.child = ap (big_number 4) apart ∙ big_number-reads_back 4 c.child (number_part kind false c ++ rest) k in
     let len : length child + length (number_part kind false c) ≡ length (head_part kind false c) = omega (arith, length-append child (number_part kind false c)) in
     let f : ℕ → Numbers = λ n. record { child = Some c.child; rowid = rowid_in kind c; total = if has_payload kind false then Some (length c.body) else None; len = n } in
     let e : numbers_behind kind false (Some c.child) 4 (head_part kind false c ++ rest) ≡ Some (f (length (head_part kind false c)))
-      = ap (numbers_behind kind false (Some c.child) 4) apart
-      ∙ ap (λ n. numbers_behind kind false (Some c.child) n (child ++ (number_part kind false c ++ rest))) (sym four)
-      ∙ behind_back kind false c (Some c.child) child rest r b ∙ ap (λ n. Some (f n)) len in
+    = ap (numbers_behind kind false (Some c.child) 4) apart
+    ∙ ap (λ n. numbers_behind kind false (Some c.child) n (child ++ (number_part kind false c ++ rest))) (sym four)
+    ∙ behind_back kind false c (Some c.child) child rest r b ∙ ap (λ n. Some (f n)) len in
     rw (long, number) e
   where
     not_short : (n : ℕ) → 4 ≤ n → nat_lt n 4 ≡ false
@@ -110,19 +110,25 @@ payload_there usable kind leaf c rest least small =
     let le = local_le kind usable (length c.body) least in
     let len : length local ≡ kept = omega (arith, length-take kept c.body) in
     let whole : (head ++ payload_part usable kind c) ++ rest ≡ head ++ (local ++ (link kept (length c.body) c.next ++ rest))
-      = append_assoc head (payload_part usable kind c) rest ∙ ap (λ (t : List ℕ). head ++ t) (append_assoc local (link kept (length c.body) c.next) rest) in
+    = append_assoc head (payload_part usable kind c) rest ∙ ap (λ (t : List ℕ). head ++ t) (append_assoc local (link kept (length c.body) c.next) rest) in
     let all : length ((head ++ payload_part usable kind c) ++ rest) ≡ length head + (kept + (length (link kept (length c.body) c.next) + length rest))
-      = omega (arith, ap length whole, length-append head (local ++ (link kept (length c.body) c.next ++ rest)), length-append local (link kept (length c.body) c.next ++ rest),
-          length-append (link kept (length c.body) c.next) rest, len) in
+    = omega (
+      arith,
+      ap length whole,
+      length-append head (local ++ (link kept (length c.body) c.next ++ rest)),
+      length-append local (link kept (length c.body) c.next ++ rest),
+      length-append (link kept (length c.body) c.next) rest,
+      len,
+    ) in
     record {
       long = not_less (length ((head ++ payload_part usable kind c) ++ rest)) (size_of (length head) kept (length c.body)) (size_le (nat_eq kept (length c.body)) (length head) kept (length rest) c.next (length ((head ++ payload_part usable kind c) ++ rest)) all);
       next = λ e.
-        let linked : link kept (length c.body) c.next ≡ big_bytes 4 c.next = rw e refl in
-        let place : drop (length head + kept) ((head ++ payload_part usable kind c) ++ rest) ≡ big_bytes 4 c.next ++ rest
+          let linked : link kept (length c.body) c.next ≡ big_bytes 4 c.next = rw e refl in
+          let place : drop (length head + kept) ((head ++ payload_part usable kind c) ++ rest) ≡ big_bytes 4 c.next ++ rest
           = ap (drop (length head + kept)) whole ∙ drop-append-add head (local ++ (link kept (length c.body) c.next ++ rest)) kept
           ∙ ap (λ n. drop n (local ++ (link kept (length c.body) c.next ++ rest))) (sym len) ∙ drop-append_seam local (link kept (length c.body) c.next ++ rest)
           ∙ ap (λ (t : List ℕ). t ++ rest) linked in
-        ap (big_number 4) place ∙ big_number-reads_back 4 c.next rest small;
+          ap (big_number 4) place ∙ big_number-reads_back 4 c.next rest small;
     }
   where
     size_le : (b : Bool) (from kept more next all : ℕ) → all ≡ from + (kept + (length (if b then [] else big_bytes 4 next) + more)) → (if b then from + kept else from + kept + 4) ≤ all
@@ -145,10 +151,11 @@ payload_back usable kind leaf c bytes p =
       size = if b then length (head_part kind leaf c) + kept_of usable kind c.body else length (head_part kind leaf c) + kept_of usable kind c.body + 4;
       overflow = if b then None else Some q;
     }
+
     finish : (b : Bool) → nat_lt (length bytes) (if b then length (head_part kind leaf c) + kept_of usable kind c.body else length (head_part kind leaf c) + kept_of usable kind c.body + 4) ≡ false
         → (b ≡ false → u32_at bytes (length (head_part kind leaf c) + kept_of usable kind c.body) ≡ c.next)
         → (if nat_lt (length bytes) (if b then length (head_part kind leaf c) + kept_of usable kind c.body else length (head_part kind leaf c) + kept_of usable kind c.body + 4) then Err Cut
-          else Ok (made b (u32_at bytes (length (head_part kind leaf c) + kept_of usable kind c.body)))) ≡ Ok (made b c.next)
+        else Ok (made b (u32_at bytes (length (head_part kind leaf c) + kept_of usable kind c.body)))) ≡ Ok (made b c.next)
     finish true long next = rw long refl
     finish false long next = rw (long, next refl) refl
 
@@ -193,5 +200,5 @@ unfolding cell_parts cell_bytes all_numbers
 cell_reads usable limit kind leaf c rest least w =
     let apart : cell_bytes usable kind leaf c ++ rest ≡ head_part kind leaf c ++ (payload_part usable kind c ++ rest) = append_assoc (head_part kind leaf c) (payload_part usable kind c) rest in
     ap (parts_from usable limit kind (cell_bytes usable kind leaf c ++ rest))
-      (ap (numbers_of kind leaf) apart ∙ numbers_back kind leaf c (payload_part usable kind c ++ rest) w.child w.rowid w.large)
+    (ap (numbers_of kind leaf) apart ∙ numbers_back kind leaf c (payload_part usable kind c ++ rest) w.child w.rowid w.large)
     ∙ by_payload usable limit kind leaf c rest (has_payload kind leaf) refl least w

@@ -1,0 +1,6 @@
+//! What the pages of a written tree say: they are a well-formed tree of its entries.
+#![tactic(auto)]
+
+mod laws;
+
+pub use laws::a_written_cell_is_read_back;

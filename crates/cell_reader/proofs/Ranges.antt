@@ -22,7 +22,7 @@ either true = inl refl
 either false = inr refl
 
 -- a varint has a byte, and the bytes have all of it
-abbrev Within : ℕ → ℕ × ℕ → Type 0
+abbrev pub Within : ℕ → ℕ × ℕ → Type 0
 Within len v = (1 ≤ v.1) × (v.1 ≤ len)
 
 varint_from_within : (k high : ℕ) (s : List ℕ) → IfSome (varint_from k high s) (λ v. (k < v.1) × (v.1 ≤ k + length s))
@@ -42,7 +42,7 @@ varint_from_within k high (b ∷ s) =
     later None h = tt
     later (Some v) h = (omega (arith, h.0), omega (arith, h.1))
 
-varint_within : (s : List ℕ) → IfSome (varint_at s) (Within (length s))
+pub varint_within : (s : List ℕ) → IfSome (varint_at s) (Within (length s))
 unfolding varint_at
 varint_within s = start (varint_from 0 0 s) (varint_from_within 0 0 s)
   where

@@ -19,7 +19,7 @@ use Rattle.cell_reader.specs.Shape.{u32_at}
 use Rattle.cell_reader.specs.Spelling.{AreNumbers, IsBare, IsCell, IsChild, IsKey, IsNothing, IsNumber, IsOverflow, IsRightLong, IsTotal}
 
 -- four bytes give the number, whatever follows them
-four_only : (bytes rest : List ℕ) → length bytes ≡ 4 → big_number 4 (bytes ++ rest) ≡ big_number 4 bytes
+pub four_only : (bytes rest : List ℕ) → length bytes ≡ 4 → big_number 4 (bytes ++ rest) ≡ big_number 4 bytes
 four_only [] rest e = absurd (omega arith)
 four_only (a ∷ []) rest e = absurd (omega arith)
 four_only (a ∷ b ∷ []) rest e = absurd (omega arith)

@@ -1,5 +1,5 @@
 -- The bytes that spell a cell (docs/FORMAT.md, "Pages and cells"; fileformat2.html, 1.6).
-use Rattle.std.specs.Prelude.{◌≡◌, ◌≢◌, ◌≤◌, ◌⊎◌, ℕ, ◌+◌, ◌*◌, Bool, true, false, Option, Some, None, Ok, List, [], ◌++◌, length, drop}
+use Rattle.std.specs.Prelude.{◌≡◌, ◌≢◌, ◌≤◌, ◌⊎◌, ℕ, ◌+◌, ◌*◌, Bool, true, false, Option, Some, None, Ok, List, [], ◌++◌, length, drop, take}
 use Rattle.std.specs.List.{slice_range}
 use Rattle.std.specs.Bool.{MatchBool}
 use Rattle.byteorder.specs.Endian.{big_number}
@@ -87,3 +87,9 @@ ReadsBackOnPage = (page : List ℕ) (usable pages : ℕ) (shape : PageShape) (i 
     → slice_range page (pointer_of page shape i) usable ≡ s ++ rest
     → IsCell usable shape.kind shape.leaf s p → IsRightLong shape.kind shape.leaf (pages * usable) p
     → cell_of page usable pages shape i ≡ Ok (view_at (pointer_of page shape i) p)
+
+-- a cell that is read is spelled by its bytes
+abbrev pub ReadIsSpelled : Type 0
+ReadIsSpelled = (usable limit : ℕ) (kind : Kind) (leaf : Bool) (bytes : List ℕ) (p : Parts)
+    → cell_parts usable limit kind leaf bytes ≡ Ok p
+    → IsCell usable kind leaf (take p.size bytes) p × IsRightLong kind leaf limit p

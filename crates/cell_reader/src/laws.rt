@@ -1,5 +1,5 @@
 //! What the definitions of accepted cells say.
-ghost use Rattle.cell_reader.specs.Spelling.{ReadsBack, ReadsBackOnPage};
+ghost use Rattle.cell_reader.specs.Spelling.{ReadIsSpelled, ReadsBack, ReadsBackOnPage};
 ghost use Rattle.cell_reader.specs.Laws.{AcceptedAreApart, MarksTellVerdicts, OffersTellRanges};
 
 /// No two accepted cells of a page share a byte.
@@ -22,4 +22,9 @@ pub fn offers_tell_ranges()
 pub fn a_spelled_cell_is_read_back()
     ensures parts { ReadsBack }
     ensures page { ReadsBackOnPage }
+{}
+
+/// A cell that is read is spelled by its bytes, and its payload is neither empty nor too long.
+pub fn a_read_cell_is_spelled()
+    ensures { ReadIsSpelled }
 {}

@@ -76,36 +76,40 @@ fn a_call_of_the_sink_that_fails_leaves_a_front_of_the_line(rt: HostRuntime) -> 
     Ok(())
 }
 
-// What the line is.
-fn written(alloc: Global, line: &ReportLine) -> Result<Vec<u8>, Fail> {
-    let mut to = MemSink::new(alloc, 200, Vec::new(alloc))?;
-    put_line(line, &mut to)?;
-    Ok(Vec::from_slice(alloc, to.bytes())?)
-}
-
 #[test]
-fn a_report_has_a_line_for_each_thing_that_it_names(rt: HostRuntime) -> Result<(), Fail> {
+fn the_geometry_comes_with_its_origin(rt: HostRuntime) -> Result<(), Fail> {
     let alloc = rt.alloc();
+    let mut to = MemSink::new(alloc, 100, Vec::new(alloc))?;
     let line = ReportLine::Geometry {
         size: 512,
         reserved: 0,
         pages: 4,
         origin: Origin::Header,
     };
-    assert_eq!(rt;
-        written(alloc, &line)?.as_slice(),
-        b"geometry 512 0 4 header\n".as_slice()
-    );
+    assert_eq!(rt; put_line(&line, &mut to), Ok(()));
+    assert_eq!(rt; to.bytes(), b"geometry 512 0 4 header\n".as_slice());
+    Ok(())
+}
+
+#[test]
+fn unread_cells_of_a_page_come_with_their_cause(rt: HostRuntime) -> Result<(), Fail> {
+    let alloc = rt.alloc();
+    let mut to = MemSink::new(alloc, 100, Vec::new(alloc))?;
     let line = ReportLine::Cells {
         page: 2,
         count: 299,
         first: 1,
         cause: CellCause::Overlap,
     };
-    assert_eq!(rt;
-        written(alloc, &line)?.as_slice(),
-        b"cells 2 299 1 overlap\n".as_slice()
-    );
+    assert_eq!(rt; put_line(&line, &mut to), Ok(()));
+    assert_eq!(rt; to.bytes(), b"cells 2 299 1 overlap\n".as_slice());
+    Ok(())
+}
+
+#[test]
+fn a_clash_names_the_later_row_first(rt: HostRuntime) -> Result<(), Fail> {
+    let alloc = rt.alloc();
+    let mut to = MemSink::new(alloc, 100, Vec::new(alloc))?;
     let line = ReportLine::Clash {
         name: Bytes::copy_of(alloc, b"t")?,
         page: 4,
@@ -114,22 +118,33 @@ fn a_report_has_a_line_for_each_thing_that_it_names(rt: HostRuntime) -> Result<(
         earlier_cell: 1,
         key: 0,
     };
-    assert_eq!(rt;
-        written(alloc, &line)?.as_slice(),
-        b"clash t 4 0 3 1 0\n".as_slice()
-    );
+    assert_eq!(rt; put_line(&line, &mut to), Ok(()));
+    assert_eq!(rt; to.bytes(), b"clash t 4 0 3 1 0\n".as_slice());
+    Ok(())
+}
+
+#[test]
+fn an_unread_table_comes_with_the_cell_that_has_no_order(rt: HostRuntime) -> Result<(), Fail> {
+    let alloc = rt.alloc();
+    let mut to = MemSink::new(alloc, 100, Vec::new(alloc))?;
     let line = ReportLine::Unread {
         name: Bytes::copy_of(alloc, b"v")?,
         rows: 2,
         pages: 1,
         cause: UnreadCause::Unordered(Place { page: 2, cell: 0 }),
     };
-    assert_eq!(rt;
-        written(alloc, &line)?.as_slice(),
-        b"unread v 2 1 unordered 2 0\n".as_slice()
-    );
+    assert_eq!(rt; put_line(&line, &mut to), Ok(()));
+    assert_eq!(rt; to.bytes(), b"unread v 2 1 unordered 2 0\n".as_slice());
+    Ok(())
+}
+
+#[test]
+fn the_result_is_the_number_of_pages(rt: HostRuntime) -> Result<(), Fail> {
+    let alloc = rt.alloc();
+    let mut to = MemSink::new(alloc, 100, Vec::new(alloc))?;
     let line = ReportLine::Written { pages: 3 };
-    assert_eq!(rt; written(alloc, &line)?.as_slice(), b"result 3\n".as_slice());
+    assert_eq!(rt; put_line(&line, &mut to), Ok(()));
+    assert_eq!(rt; to.bytes(), b"result 3\n".as_slice());
     Ok(())
 }
 

@@ -214,12 +214,3 @@ fn ranges_over_many_blocks_are_told_apart(rt: HostRuntime) -> Result<(), Fail> {
     assert!(rt; accepted.offer(1001, 60000));
     Ok(())
 }
-
-#[test]
-fn a_range_of_many_blocks_ends_in_the_midst_of_one(rt: HostRuntime) -> Result<(), Fail> {
-    let mut accepted = Accepted::new(rt.alloc(), 65536)?;
-    assert!(rt; accepted.offer(1, 60000));
-    assert!(rt; !accepted.offer(59999, 65536));
-    assert!(rt; accepted.offer(60000, 65536));
-    Ok(())
-}

@@ -321,7 +321,7 @@ fn each_call_of_the_source_that_fails_is_an_input_fault(rt: HostRuntime) -> Resu
 #[test]
 fn each_call_under_the_schema_that_fails_is_an_input_fault(rt: HostRuntime) -> Result<(), Fail> {
     let alloc = rt.alloc();
-    for call in 1..4u64 {
+    for call in 1..6u64 {
         let done = ran_failing_at(alloc, &["schema", "a"], call)?;
         assert_eq!(rt; done.status, 3);
         assert_eq!(rt; done.report.len(), 0);

@@ -208,9 +208,19 @@ fn a_range_is_accepted_where_it_shares_no_byte_with_an_accepted_one(
 
 #[test]
 fn ranges_over_many_blocks_are_told_apart(rt: HostRuntime) -> Result<(), Fail> {
-    let mut accepted = Accepted::new(rt.alloc(), 65536)?;
+    let mut accepted = Accepted::new(rt.alloc(), 2048)?;
     assert!(rt; accepted.offer(1000, 1001));
-    assert!(rt; !accepted.offer(1, 60000));
-    assert!(rt; accepted.offer(1001, 60000));
+    assert!(rt; !accepted.offer(1, 1500));
+    assert!(rt; accepted.offer(1001, 1500));
+    Ok(())
+}
+
+#[test]
+fn a_range_may_end_or_begin_where_a_long_one_begins_or_ends(rt: HostRuntime) -> Result<(), Fail> {
+    let mut accepted = Accepted::new(rt.alloc(), 2048)?;
+    assert!(rt; accepted.offer(1000, 1500));
+    assert!(rt; accepted.offer(1, 1000));
+    assert!(rt; !accepted.offer(1499, 2048));
+    assert!(rt; accepted.offer(1500, 2048));
     Ok(())
 }

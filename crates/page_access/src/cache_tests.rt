@@ -19,9 +19,11 @@ fn a_cache_of_one_slot_reads_a_page_again_once_another_was_asked_for(
     assert_eq!(rt; cache.slots(), 1);
     let mut to = [0; 512];
     assert_eq!(rt; cache.page(&mut src, 1, &mut to), Ok(()));
+    assert!(rt; to.iter().all(|byte| *byte == 1));
     assert_eq!(rt; cache.page(&mut src, 2, &mut to), Ok(()));
     assert!(rt; to.iter().all(|byte| *byte == 2));
     assert_eq!(rt; cache.page(&mut src, 1, &mut to), Ok(()));
+    assert!(rt; to.iter().all(|byte| *byte == 1));
     assert_eq!(rt; cache.page(&mut src, 1, &mut to), Ok(()));
     assert!(rt; to.iter().all(|byte| *byte == 1));
     assert_eq!(rt; src.reads(), 3);

@@ -330,6 +330,13 @@ fn each_call_under_the_schema_that_fails_is_an_input_fault(rt: HostRuntime) -> R
 }
 
 #[test]
+fn the_schema_of_two_pages_takes_five_calls_of_the_source(rt: HostRuntime) -> Result<(), Fail> {
+    let done = ran_failing_at(rt.alloc(), &["schema", "a"], 6)?;
+    assert_eq!(rt; done.status, 0);
+    Ok(())
+}
+
+#[test]
 fn a_report_that_fails_keeps_a_front_of_the_listing(rt: HostRuntime) -> Result<(), Fail> {
     let alloc = rt.alloc();
     for call in 1..12u64 {

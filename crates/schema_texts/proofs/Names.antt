@@ -57,12 +57,12 @@ names_append (x ∷ xs) ys =
 
 -- one more table row is read
 pub read_more : (kinds : List (Option Kind)) (pages : ℕ) (rows : List SchemaRow) (i : ℕ) (row : SchemaRow) (old new : BTreeSet (Vec ℕ Global))
-    (before after : List TableReading) (r : TableReading) → i < length rows → row ≡ get_or rows i row → is_table row.kind ≡ true → r.row ≡ i
+    (before after : List TableReading) (r : TableReading) → i < length rows → row ≡ get_or rows i row → is_table row.kind ≡ true → r.row ≡ i → r.root ≡ row.root
     → after ≡ before ++ r ∷ [] → AreRead kinds pages rows i old before
     → (Knows old (table_names (take i rows)) → IsReading kinds pages row (is_named row.name (table_names (take i rows))) r.reading)
     → ((names : List (List ℕ)) → Knows old names → Knows new (names ++ row.name ∷ []))
     → AreRead kinds pages rows (i + 1) new after
-read_more kinds pages rows i row old new before after r lt at table number pushed was reading known =
+read_more kinds pages rows i row old new before after r lt at table number root pushed was reading known =
     let next : i + 1 ≡ suc i = omega arith in
     let split : drop i rows ≡ row ∷ drop (i + 1) rows = drop_more rows i row lt ∙ ap (λ (r : SchemaRow). r ∷ drop (i + 1) rows) (sym at) in
     let behind : take (i + 1) rows ≡ take i rows ++ row ∷ [] = ap (λ (n : ℕ). take n rows) next ∙ take-suc rows i row lt ∙ ap (λ (r : SchemaRow). take i rows ++ r ∷ []) (sym at) in
@@ -81,6 +81,7 @@ read_more kinds pages rows i row old new before after r lt at table number pushe
             record {
               row = row;
               row_is = ap (slice_get rows) number ∙ slice_get_read rows (length rows) i row refl lt at;
+              root_is = root;
               reading = subst (λ (n : ℕ). IsReading kinds pages row (is_named row.name (table_names (take n rows))) r.reading) (sym number) (reading was.known);
             },
             tt,

@@ -111,6 +111,7 @@ IsReading kinds pages row double (readings.Unread cause kind) = IsBarred row dou
 pub record IsReadingIn (kinds : List (Option Kind)) (pages : ℕ) (rows : List SchemaRow) (r : TableReading) : Type 0 where
   pub row : SchemaRow
   pub row_is : slice_get rows r.row ≡ Some row
+  pub root_is : r.root ≡ row.root
   pub reading : IsReading kinds pages row (is_named row.name (table_names (take r.row rows))) r.reading
 
 -- the numbers of the table rows among rows that are counted from i on

@@ -87,7 +87,8 @@ fn bar(shape: &TableShape, name: &[u8], double: bool) -> Option<UnreadCause>
     None
 }
 
-fn kind_of(shape: &TableShape) -> Kind
+/// The kind of the pages of a table.
+pub fn kind_of(shape: &TableShape) -> Kind
     ensures { result ≡ kind_of (shape_seen shape.now) }
 {
     if shape.without_rowid {

@@ -6,5 +6,6 @@ mod causes;
 mod readings;
 mod rows;
 
+pub use causes::kind_of;
 pub use readings::{Reading, TableReading};
 pub use rows::read_tables;

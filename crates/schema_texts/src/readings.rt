@@ -22,5 +22,7 @@ pub enum Reading {
 pub struct TableReading {
     /// The number of the row among the rows of the schema, counted from 0.
     pub row: u32,
+    /// The number that the row gives as its root page.
+    pub root: i64,
     pub reading: Reading,
 }

@@ -4,7 +4,7 @@ ghost use Rattle.std.specs.List.{AllByRecursion};
 ghost use Rattle.raw_schema.specs.Bounds.{sql_len};
 ghost use Rattle.table_shape.specs.Names.{is_named};
 ghost use Rattle.schema_texts.specs.Known.{AreRead, Knows};
-ghost use Rattle.schema_texts.specs.Readings.{AreReadings, is_table};
+ghost use Rattle.schema_texts.specs.Readings.{AreReadings, IsReading, is_table};
 
 use crate::causes::read_row;
 use crate::readings::TableReading;
@@ -64,12 +64,31 @@ fn read_next(
         return Ok(());
     }
     let double = meet(alloc, names, &row.name)?;
-    let reading = read_row(alloc, row, double, survey, pages)?;
-    readings.push(TableReading {
-        row: number,
-        reading,
-    })?;
+    let reading = read_numbered(alloc, row, number, double, survey, pages)?;
+    readings.push(reading)?;
     Ok(())
+}
+
+// The reading of a table row of this number.
+fn read_numbered(
+    alloc: Global,
+    row: &SchemaRow,
+    number: u32,
+    double: bool,
+    survey: &PageKinds,
+    pages: u32,
+) -> Result<TableReading, AllocError>
+    requires short { sql_len row.now.sql < 2 ^ 32 }
+    requires surveyed { length survey.now ≡ pages }
+    ensures number { IfOk result (λ r. r.row ≡ number) }
+    ensures root { IfOk result (λ r. r.root ≡ row.now.root) }
+    ensures reading { IfOk result (λ r. IsReading survey.now pages row.now double r.reading) }
+{
+    Ok(TableReading {
+        row: number,
+        root: row.root,
+        reading: read_row(alloc, row, double, survey, pages)?,
+    })
 }
 
 fn is_table(kind: SchemaKind) -> bool

@@ -5,4 +5,10 @@
 mod uses;
 mod wants;
 
-pub use uses::{FileUses, INDEX_LIST, TABLE_LIST, find_uses};
+pub use uses::{FileUses, find_uses};
+
+/// The list of a page table that holds the pages of the tables' trees.
+pub const TABLE_LIST: u32 = 2;
+
+/// The list of a page table that holds the pages of the indexes' trees.
+pub const INDEX_LIST: u32 = 3;

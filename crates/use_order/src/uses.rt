@@ -12,6 +12,7 @@ ghost use Rattle.tree_uses.specs.Trees.{IsTreeOf, tree_of, turns_of};
 ghost use Rattle.use_order.specs.Order.{AreInOrder};
 
 use crate::wants::{index_trees, table_trees};
+use crate::{INDEX_LIST, TABLE_LIST};
 use page_access::{Geometry, PageCache, ReadFault, Source};
 use page_lists::PageTable;
 use page_walk::PageKinds;
@@ -19,12 +20,6 @@ use raw_schema::{RawSchema, read_schema};
 use schema_texts::{TableReading, read_tables};
 use std::alloc::Global;
 use tree_uses::{TreeTurns, TreeUse, read_trees, walk_trees};
-
-/// The list of a page table that holds the pages of the tables' trees.
-pub const TABLE_LIST: u32 = 2;
-
-/// The list of a page table that holds the pages of the indexes' trees.
-pub const INDEX_LIST: u32 = 3;
 
 /// What stands in the schema and in the trees of its rows.
 #[derive(Debug, Drop)]

@@ -9,3 +9,6 @@ mod rows;
 pub use causes::kind_of;
 pub use readings::{Reading, TableReading};
 pub use rows::read_tables;
+
+#[cfg(test)]
+mod tests;

@@ -9,3 +9,6 @@ mod walks;
 pub use laws::{trees_are_unused, trees_take_turns};
 pub use reads::{TreeTurns, read_trees};
 pub use walks::{TreeUse, WantedTree, walk_trees};
+
+#[cfg(test)]
+mod tests;

@@ -12,3 +12,6 @@ pub const TABLE_LIST: u32 = 2;
 
 /// The list of a page table that holds the pages of the indexes' trees.
 pub const INDEX_LIST: u32 = 3;
+
+#[cfg(test)]
+mod tests;

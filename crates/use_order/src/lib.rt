@@ -2,9 +2,11 @@
 //! their cells: the first part of the order of use (docs/ARCHITECTURE.md, "Order of use").
 #![tactic(auto)]
 
+mod laws;
 mod uses;
 mod wants;
 
+pub use laws::each_page_has_one_use;
 pub use uses::{FileUses, find_uses};
 
 /// The list of a page table that holds the pages of the tables' trees.

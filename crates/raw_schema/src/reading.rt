@@ -5,6 +5,7 @@ ghost use Rattle.page_access.specs.Cache.{HasAll, IsCacheOf};
 ghost use Rattle.page_access.specs.Files.{file_of};
 ghost use Rattle.page_access.specs.Outside.{HasCauseOf, KeepsSource};
 ghost use Rattle.page_access.specs.declared.outside.ReadFault.TheVariants as faults;
+ghost use Rattle.page_lists.specs.Lists.{IsPartOf};
 ghost use Rattle.page_lists.specs.Table.{IsPartition, Moves, all_moved, unused};
 ghost use Rattle.overflow_chain.specs.declared.TheConstants.{OVERFLOW_LIST};
 ghost use Rattle.page_walk.specs.Bounds.{ArePages};
@@ -65,6 +66,8 @@ pub fn read_schema<S: Source>(
         (λ all. s.pages.items ≡ schema_pages (file_of all geo.now) (unused table.old))) }
     ensures notes { IfOk result (λ s. IfSome (S.bytes src.old)
         (λ all. s.notes.items ≡ schema_notes (file_of all geo.now) (unused table.old))) }
+    // told or not: unused pages, each once
+    ensures part { IfOk result (λ s. IsPartOf s.pages.items (unused table.old)) }
     ensures evidence { OnOk result (IfSome (S.bytes src.old)
         (λ all. AllByRecursion (Evidence (file_of all geo.now))
         (cells_in (schema_turns (file_of all geo.now) (unused table.old))))) }

@@ -1,0 +1,29 @@
+-- Names that were met, in a set that is searched in the time of a few comparisons.
+use Rattle.std.specs.Prelude.{◌≡◌, ℕ, Option, List, Vec, ◌++◌, map, take, drop}
+use Rattle.std.specs.declared.alloc.Global.{Global}
+use Rattle.std.specs.declared.cmp.Ordering.{Ordering}
+use Rattle.std.specs.BTreeSet.{BTreeSet, contains}
+use Rattle.std.specs.Cmp.Lexicographic.{slice_cmp}
+use Rattle.std.specs.List.{AllByRecursion, list_any}
+use Rattle.std.specs.Ordering.{nat_cmp}
+use Rattle.std.specs.Str.{bytes_eq, str_to_ascii_lowercase}
+use Rattle.cell_reader.specs.declared.shapes.Kind.{Kind}
+use Rattle.raw_schema.specs.declared.rows.SchemaRow.{SchemaRow}
+use Rattle.schema_texts.specs.Readings.{IsReadingIn, table_names, tables_from}
+use Rattle.schema_texts.specs.declared.readings.TableReading.{TableReading}
+
+-- names in the order of their bytes
+abbrev pub name_cmp : Vec ℕ Global → Vec ℕ Global → Ordering
+name_cmp a b = slice_cmp nat_cmp a.items b.items
+
+-- the set has these names, their capitals made small, and no others
+abbrev pub Knows : BTreeSet (Vec ℕ Global) → List (List ℕ) → Type 0
+Knows set names = (name : Vec ℕ Global) → contains name_cmp set name
+    ≡ list_any (λ (other : List ℕ). bytes_eq (str_to_ascii_lowercase other) name.items) names
+
+-- the table rows in front of row i are read, and their names are known
+pub record AreRead (kinds : List (Option Kind)) (pages : ℕ) (rows : List SchemaRow) (i : ℕ) (names : BTreeSet (Vec ℕ Global))
+    (rs : List TableReading) : Type 0 where
+  pub numbers : map (λ (r : TableReading). r.row) rs ++ tables_from i (drop i rows) ≡ tables_from 0 rows
+  pub readings : AllByRecursion (IsReadingIn kinds pages rows) rs
+  pub known : Knows names (table_names (take i rows))

@@ -1,0 +1,34 @@
+use Rattle.std.proofs.Common.{◌+◌, ◌∷◌, [], ◌∙◌, ap, map, drop}
+use Rattle.std.proofs.lemmas.List.{drop_more, map-append}
+use Rattle.page_access.proofs.Keeps.{not_failed}
+use Rattle.page_lists.proofs.Uses.{Moves-append}
+use Rattle.tree_uses.specs.Trees.{tree_of}
+use Rattle.page_walk.proofs.InTurn.{stepping_more}
+use Rattle.tree_uses.proofs.walks.walk_trees.Goals as goal
+
+pub returns-in_err-pages-clause-moves : goal.returns-in_err-pages-clause-moves
+returns-in_err-pages-clause-moves g c =
+    Moves-append c.args.list c.args.table.now c.loop-tree.table c.walk_one.new.table c.requires.list_least c.loop-tree.invariant.moves c.walk_one.ensures.moves
+
+pub returns-in_err-push-clause-moves : goal.returns-in_err-push-clause-moves
+returns-in_err-push-clause-moves g c =
+    Moves-append c.args.list c.args.table.now c.loop-tree.table c.walk_one.new.table c.requires.list_least c.loop-tree.invariant.moves c.walk_one.ensures.moves
+
+pub loop-tree-preserved : goal.loop-tree-preserved
+loop-tree-preserved g c =
+    stepping_more (record { src = c.walk_one.new.src; cache = c.walk_one.new.cache; table = c.walk_one.new.table })
+    _ (drop (c.loop-tree.tree-index + 1) c.args.wanted.now) (tree_of c.in_ok-pages.pages)
+    (map tree_of c.push.new.self.items) c.loop-tree.invariant c.requires.list_least
+    (drop_more c.args.wanted.now c.loop-tree.tree-index _ c.loop-tree-test.true)
+    (ap (map tree_of) c.in_ok-push.ensures.items ∙ map-append tree_of c.loop-tree.trees.items (c.in_ok-pages.pages ∷ []))
+    (record {
+      kept = c.walk_one.ensures.kept;
+      steady = not_failed c.in_ok-pages.ensures.cause.steady;
+      cached = c.walk_one.ensures.cached;
+      moves = c.walk_one.ensures.moves;
+      moved = c.in_ok-pages.ensures.moved;
+      good = c.in_ok-pages.ensures.bound;
+      read = c.in_ok-pages.ensures.reads;
+      full = c.walk_one.ensures.full;
+      value = c.in_ok-pages.ensures.value;
+    })

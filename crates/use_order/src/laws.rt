@@ -1,0 +1,7 @@
+//! What holds of the uses of pages.
+ghost use Rattle.use_order.specs.Laws.{UsesAlwaysHold};
+
+/// Each page has one use at most, and each readable cell of a table's tree has its evidence in the file.
+pub fn each_page_has_one_use()
+    ensures { UsesAlwaysHold }
+{}

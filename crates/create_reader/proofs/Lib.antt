@@ -1,4 +1,7 @@
 pub mod Holds
+pub mod Walk
+pub mod Known
 pub mod Valid
+pub mod Early
 pub mod Parts
 pub mod One

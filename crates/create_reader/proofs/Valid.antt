@@ -170,7 +170,7 @@ key_some columns c g = rw length-map (some_names c.names (neither (length c.name
 
 -- ---- all constraints that take a number
 
-none_numbered : (test : Constraint → Bool) (t : Table) (taken cs : List Constraint) → list_any test cs ≡ false
+pub none_numbered : (test : Constraint → Bool) (t : Table) (taken cs : List Constraint) → list_any test cs ≡ false
     → list_any test (numbered t taken cs) ≡ false
 none_numbered test t taken [] h = refl
 none_numbered test t taken (c ∷ cs) h =

@@ -3,7 +3,7 @@
 ghost use Rattle.std.specs.Prelude.{◌≡◌, List, count_by, length, map, is_none, ◌||◌, ◌==◌, ◌&&◌, slice_get};
 ghost use Rattle.std.specs.List.{list_any};
 ghost use Rattle.create_reader.specs.Faults.{auto_alone, bad_list, before_primary, column_repeats, has_bad_list, has_marks, has_repeat, integer_beside_keys, key_fault, key_lacks_coll, lacks_coll, list_lacks_coll, primary_count, unique_before, wrong_primaries};
-ghost use Rattle.create_reader.specs.Numbers.{column_named, numbered_of, same_names, single_integer};
+ghost use Rattle.create_reader.specs.Numbers.{column_named, makes_alias, numbered_of, same_names, single_integer};
 ghost use Rattle.create_reader.specs.Views.{constraint_seen, constraints_seen, seen};
 ghost use Rattle.table_shape.specs.Names.{same_name};
 
@@ -21,7 +21,7 @@ pub fn key_fault(table: &TableText, taken: &[&ConstraintText]) -> bool
     wrong_primaries(table)
         || auto_alone(table)
         || column_repeats(table.columns.as_slice())
-        || has_bad_list(table)
+        || has_bad_list(table, taken)
         || has_marks(table)
         || key_lacks_coll(table.columns.as_slice(), taken)
         || integer_beside_keys(table, taken)
@@ -75,12 +75,38 @@ fn has_column(columns: &[ColumnText], name: &[u8]) -> bool
     false
 }
 
-fn has_bad_list(table: &TableText) -> bool
+// A list that took no number has the names of one that did, or makes its column the rowid.
+fn has_bad_list(table: &TableText, taken: &[&ConstraintText]) -> bool
+    requires { map (λ k. constraint_seen table.now.columns.items k.now) taken.now
+        ≡ numbered_of (seen table.now) }
     ensures { result ≡ has_bad_list (seen table.now) }
+{
+    if some_bad(table, taken) {
+        return true;
+    }
+    alias_bad(table)
+}
+
+fn some_bad(table: &TableText, taken: &[&ConstraintText]) -> bool
+    ensures { result ≡ list_any (bad_list table.now.columns.items)
+        (map (λ k. constraint_seen table.now.columns.items k.now) taken.now) }
+{
+    let columns = table.columns.as_slice();
+    for c in taken {
+        if bad_list(columns, c) {
+            return true;
+        }
+    }
+    false
+}
+
+fn alias_bad(table: &TableText) -> bool
+    ensures { result ≡ list_any (λ c. makes_alias (seen table.now) c && bad_list table.now.columns.items c)
+        (seen table.now).constraints }
 {
     let columns = table.columns.as_slice();
     for c in table.constraints.as_slice() {
-        if bad_list(columns, c) {
+        if makes_alias(table, c) && bad_list(columns, c) {
             return true;
         }
     }

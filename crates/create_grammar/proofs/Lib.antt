@@ -3,3 +3,4 @@ pub mod Steps
 pub mod Many
 pub mod Told
 pub mod ClassTests
+pub mod Cuts

@@ -1,4 +1,5 @@
 pub mod Words
+pub mod Cover
 pub mod Sorts
 pub mod Roles
 pub mod Classes

@@ -2,6 +2,7 @@
 #![tactic(auto)]
 
 ghost use Rattle.std.specs.Prelude.{◌≡◌, [], true};
+ghost use Rattle.create_grammar.specs.Cover.{WordsCover};
 ghost use Rattle.create_grammar.specs.Grammar.{table};
 ghost use Rattle.word_grammar.specs.Reading.{is_plain};
 
@@ -23,4 +24,10 @@ pub use spans::{Word, WordKind, words};
 /// One word of sight is enough for the grammar.
 pub fn grammar_is_plain()
     ensures { is_plain table [] ≡ true }
+{}
+
+/// The words of a text are in order and apart, and each byte of it is in one of them, or in the space
+/// and the comments between them.
+pub fn words_cover_a_text()
+    ensures { WordsCover }
 {}

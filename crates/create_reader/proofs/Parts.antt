@@ -1,12 +1,12 @@
 -- The parts of a shape that were made, as one shape.
 use Rattle.std.proofs.Common.{◌≡◌, refl, sym, subst, arith, ◌≤◌, nat_lt, Bool, true, false, if◌then◌else◌, Some, None, List, length, map}
-use Rattle.std.proofs.lemmas.Bool.{ltb-false}
+use Rattle.std.proofs.lemmas.Bool.{le-ltb, ltb-false}
 use Rattle.create_reader.specs.declared.faults.CreateFault.TheVariants.{Generated, Limit, Key}
 use Rattle.create_reader.specs.declared.meaning.Made.{Made}
-use Rattle.create_reader.specs.Constraints.{Table}
+use Rattle.create_reader.specs.Constraints.{Constraint, Table}
 use Rattle.create_reader.specs.Faults.{first_fault, key_fault, over_limit}
 use Rattle.create_reader.specs.Meaning.{column_from, shape_of}
-use Rattle.create_reader.specs.Numbers.{numbered_of}
+use Rattle.create_reader.specs.Numbers.{numbered_of, up_to_16}
 use Rattle.create_reader.specs.Outcome.{IsMade}
 use Rattle.table_shape.specs.declared.columns.Column.{Column}
 use Rattle.table_shape.specs.Shape.{IsShape, key_seen}
@@ -32,6 +32,22 @@ pub few_columns : (t : Table) → over_limit t ≡ false → length t.columns �
 few_columns t h =
     let few = ltb-false 1996 (length t.columns) (neither (nat_lt 1996 (length t.columns)) (nat_lt 16 (length (numbered_of t))) h).0 in
     omega (arith, few)
+
+-- the constraints that take a number, where they are at most 16
+small_taken : (xs ys : List Constraint) → Some xs ≡ up_to_16 ys → (xs ≡ ys) × (nat_lt 16 (length ys) ≡ false)
+small_taken xs ys h = by_len (nat_lt 16 (length ys)) refl h
+  where
+    by_len : (b : Bool) → nat_lt 16 (length ys) ≡ b → Some xs ≡ (if b then None else Some ys) → (xs ≡ ys) × (nat_lt 16 (length ys) ≡ false)
+    by_len true e k = (let wrong : ⊥ = cc in absurd wrong)
+    by_len false e k = (let same : xs ≡ ys = cc in (same, e))
+
+pub few_taken : (xs ys : List Constraint) → Some xs ≡ up_to_16 ys → xs ≡ ys
+few_taken xs ys h = (small_taken xs ys h).0
+
+pub sound_made : (t : Table) (xs : List Constraint) → t.generated ≡ false → length t.columns ≤ 1996
+    → Some xs ≡ up_to_16 (numbered_of t) → key_fault t ≡ false → first_fault t ≡ None
+sound_made t xs g few n k =
+    rw (g, le-ltb 1996 (length t.columns) few, (small_taken xs (numbered_of t) n).1, k) refl
 
 pub shape_made : (t : Table) (made : Made) (columns : List Column) → IsMade t made → columns ≡ map column_from t.columns
     → record {

@@ -22,11 +22,11 @@ pub neither : (a b : Bool) → (a || b) ≡ false → (a ≡ false) × (b ≡ fa
 neither true b h = absurd (true≢false h)
 neither false b h = (refl, h)
 
-holds_right : (a : Bool) → (a || true) ≡ true
+pub holds_right : (a : Bool) → (a || true) ≡ true
 holds_right true = refl
 holds_right false = refl
 
-same_equiv : IsEquivalence same_name
+pub same_equiv : IsEquivalence same_name
 same_equiv = on_equiv str_to_ascii_lowercase nat_list_eq_equiv
 
 -- ---- the place of a name
@@ -170,7 +170,7 @@ key_some columns c g = rw length-map (some_names c.names (neither (length c.name
 
 -- ---- all constraints that take a number
 
-none_numbered : (test : Constraint → Bool) (t : Table) (taken cs : List Constraint) → list_any test cs ≡ false
+pub none_numbered : (test : Constraint → Bool) (t : Table) (taken cs : List Constraint) → list_any test cs ≡ false
     → list_any test (numbered t taken cs) ≡ false
 none_numbered test t taken [] h = refl
 none_numbered test t taken (c ∷ cs) h =

@@ -5,7 +5,7 @@ ghost use Rattle.std.specs.List.{list_any};
 ghost use Rattle.create_reader.specs.Meaning.{alias_from, column_from, first_place, keys_from, place, places, primary_in, primary_of};
 ghost use Rattle.create_reader.specs.Numbers.{numbered_of};
 ghost use Rattle.create_reader.specs.Outcome.{Makes, Means};
-ghost use Rattle.create_reader.specs.Views.{seen};
+ghost use Rattle.create_reader.specs.Views.{constraint_seen, constraints_seen, seen};
 ghost use Rattle.table_shape.specs.Shape.{key_seen};
 
 use crate::causes::key_fault;
@@ -75,7 +75,7 @@ fn made_of(alloc: Global, table: &TableText) -> Result<Made, CreateFault>
         alias: alias_of(table),
         primary,
         keys,
-        autoincrement: has_auto(table.constraints.as_slice()),
+        autoincrement: has_auto(table),
     })
 }
 
@@ -104,13 +104,15 @@ fn keys(alloc: Global, table: &TableText, taken: &[&ConstraintText]) -> Result<V
     requires few { length table.now.columns.items ≤ 1996 }
     requires small { length taken.now ≤ 16 }
     ensures { IfOk result (λ v. map key_seen v.items
-        ≡ keys_from (seen table.now) 1 (map (λ k. k.now) taken.now)) }
+        ≡ keys_from (seen table.now) 1
+        (map (λ k. constraint_seen table.now.columns.items k.now) taken.now)) }
 {
+    let columns = table.columns.as_slice();
     let mut keys = Vec::new(alloc);
     for (i, c) in taken.iter().enumerate() {
-        if !(c.is_primary() && table.without_rowid) {
+        if !(c.primary && table.without_rowid) {
             keys.push(Key {
-                columns: places(alloc, table.columns.as_slice(), c.names())?,
+                columns: places(alloc, columns, c.names(columns))?,
                 number: i as u32 + 1,
             })?;
         }
@@ -124,7 +126,8 @@ fn primary_of(
     taken: &[&ConstraintText],
 ) -> Result<Vec<u32>, AllocError>
     requires few { length table.now.columns.items ≤ 1996 }
-    requires taken { map (λ k. k.now) taken.now ≡ numbered_of (seen table.now) }
+    requires taken { map (λ k. constraint_seen table.now.columns.items k.now) taken.now
+        ≡ numbered_of (seen table.now) }
     ensures { IfOk result (λ v. v.items ≡ primary_of (seen table.now)) }
 {
     if table.without_rowid {
@@ -140,11 +143,12 @@ fn primary_in(
     taken: &[&ConstraintText],
 ) -> Result<Vec<u32>, AllocError>
     requires { length columns.now ≤ 1996 }
-    ensures { IfOk result (λ v. v.items ≡ primary_in columns.now (map (λ k. k.now) taken.now)) }
+    ensures { IfOk result (λ v. v.items ≡ primary_in columns.now
+        (map (λ k. constraint_seen columns.now k.now) taken.now)) }
 {
     for c in taken {
-        if c.is_primary() {
-            return places(alloc, columns, c.names());
+        if c.primary {
+            return places(alloc, columns, c.names(columns));
         }
     }
     Ok(Vec::new(alloc))
@@ -153,11 +157,13 @@ fn primary_in(
 // The column that a constraint makes the rowid.
 fn alias_of(table: &TableText) -> Option<u32>
     requires { length table.now.columns.items ≤ 1996 }
-    ensures { result ≡ alias_from (seen table.now) table.now.constraints.items }
+    ensures { result ≡ alias_from (seen table.now)
+        (constraints_seen table.now.columns.items table.now.constraints.items) }
 {
+    let columns = table.columns.as_slice();
     for c in table.constraints.as_slice() {
         if makes_alias(table, c) {
-            return first_place(table.columns.as_slice(), c.names());
+            return first_place(columns, c.names(columns));
         }
     }
     None
@@ -173,11 +179,11 @@ fn first_place(columns: &[ColumnText], names: &[Bytes]) -> Option<u32>
     }
 }
 
-fn has_auto(constraints: &[ConstraintText]) -> bool
-    ensures { result ≡ list_any (λ c. c.auto) constraints.now }
+fn has_auto(table: &TableText) -> bool
+    ensures { result ≡ list_any (λ c. c.auto) (seen table.now).constraints }
 {
-    for c in constraints {
-        if c.has_auto() {
+    for c in table.constraints.as_slice() {
+        if c.auto {
             return true;
         }
     }

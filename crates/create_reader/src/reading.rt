@@ -4,7 +4,7 @@ ghost use Rattle.std.specs.Prelude.{◌≡◌, ◌<◌, ◌^◌, length};
 ghost use Rattle.create_reader.specs.Outcome.{Found, fault_from};
 ghost use Rattle.create_reader.specs.Laws.{IsOnly, IsOnlyFault};
 
-use crate::constraints::table_of;
+use crate::constraints::{early_fault, table_of};
 use crate::faults::CreateFault;
 use crate::meaning::shape_of;
 use create_grammar::{GrammarFault, read_words};
@@ -32,6 +32,9 @@ fn read(alloc: Global, sql: &[u8]) -> Result<TableShape, CreateFault>
         Ok(said) => said,
         Err(fault) => return Err(fault_from(fault)),
     };
+    if let Some(fault) = early_fault(said.as_slice()) {
+        return Err(fault);
+    }
     let Ok(table) = table_of(alloc, sql, said.as_slice()) else {
         return Err(CreateFault::Memory);
     };

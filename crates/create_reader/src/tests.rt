@@ -6,6 +6,10 @@ use std::alloc::{AllocError, Global};
 use std::process::Abort;
 use std::test::*;
 
+mod long;
+mod rules;
+mod spans;
+
 // The answer to a text in short: the fault, or the name and the columns (`:N`, `:R` and `:?` for
 // collations, `!` for REAL), the alias, the primary key, the keys by number.
 fn told(alloc: Global, sql: &[u8]) -> Result<Vec<u8>, AllocError> {
@@ -347,59 +351,6 @@ fn keys_that_are_not_written_are_refused(rt: HostRuntime) -> Result<(), Fail> {
     ];
     for (sql, expected) in rows {
         check(&rt, rt.alloc(), sql, expected)?;
-    }
-    Ok(())
-}
-
-#[test]
-fn deep_groups_return(rt: HostRuntime) -> Result<(), Fail> {
-    let mut sql = Vec::from_slice(rt.alloc(), b"CREATE TABLE t(a CHECK ")?;
-    for _ in 0..1_000_000 {
-        sql.push(b'(')?;
-    }
-    let answer = told(rt.alloc(), sql.as_slice())?;
-    assert_eq!(rt; answer.as_slice(), b"form 1000006".as_slice());
-    Ok(())
-}
-
-// A table of so many columns c0, c1, ..
-fn wide(alloc: Global, count: u32) -> Result<Vec<u8>, AllocError> {
-    let mut sql = Vec::from_slice(alloc, b"CREATE TABLE t(c")?;
-    for number in 0..count {
-        if number > 0 {
-            sql.extend_from_slice(b",c")?;
-        }
-        add_number(alloc, &mut sql, number)?;
-    }
-    sql.extend_from_slice(b")")?;
-    Ok(sql)
-}
-
-#[test]
-fn at_most_1996_columns_are_read(rt: HostRuntime) -> Result<(), Fail> {
-    let most = told(rt.alloc(), wide(rt.alloc(), 1996)?.as_slice())?;
-    assert!(rt; most.starts_with(b"t(c0,c1,c2,"));
-    let more = told(rt.alloc(), wide(rt.alloc(), 1997)?.as_slice())?;
-    assert_eq!(rt; more.as_slice(), b"limit".as_slice());
-    Ok(())
-}
-
-#[test]
-fn words_have_their_kinds_and_places(rt: HostRuntime) -> Result<(), Fail> {
-    let found = words(rt.alloc(), b"a1$ \"b\"--\n[c]'d'x'0'.5;`")?;
-    let expected = [
-        (WordKind::Bare, 0, 3),
-        (WordKind::Quoted, 4, 7),
-        (WordKind::Quoted, 10, 13),
-        (WordKind::Text, 13, 16),
-        (WordKind::Blob, 16, 20),
-        (WordKind::Number, 20, 22),
-        (WordKind::Mark(b';'), 22, 23),
-        (WordKind::Bad, 23, 24),
-    ];
-    assert_eq!(rt; found.len(), expected.len());
-    for (i, word) in found.as_slice().iter().enumerate() {
-        assert!(rt; expected.get(i) == Some(&(word.kind, word.start, word.end)));
     }
     Ok(())
 }

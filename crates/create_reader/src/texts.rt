@@ -1,10 +1,11 @@
 //! What a text says, before its keys are numbered.
 
-ghost use Rattle.std.specs.Prelude.{◌≡◌};
+ghost use Rattle.std.specs.Prelude.{◌≡◌, slice_get};
+ghost use Rattle.create_reader.specs.Views.{name_at};
 
 use key_order::Coll;
 use record_core::Bytes;
-use std::marker::Model;
+use std::slice;
 
 /// A column: its name, its collation (none where it is not known), whether it has REAL affinity,
 /// and whether its type is the one word INTEGER.
@@ -16,88 +17,49 @@ pub struct ColumnText {
     pub integer: bool,
 }
 
+/// The columns of a key.
+#[derive(Debug, Drop)]
+pub enum KeyNames {
+    /// The one column in which the constraint stands, counted from 0.
+    OfColumn(usize),
+    /// The names of a list.
+    Listed(Vec<Bytes>),
+}
+
 /// A PRIMARY KEY or UNIQUE.
 #[derive(Debug, Drop)]
 pub struct ConstraintText {
-    primary: bool,
-    own: Option<usize>,
-    names: Vec<Bytes>,
-    marked: bool,
-    auto: bool,
-}
-
-impl Model for ConstraintText {
-    ghost use Rattle.create_reader.specs.Constraints.{Constraint};
-
-    ghost Value = { Constraint };
-
-    ghost view = { λ c. record {
-      primary = c.primary;
-      own = c.own;
-      names = c.names.items;
-      marked = c.marked;
-      auto = c.auto;
-    } };
+    pub primary: bool,
+    /// The column in which it stands, if it is no constraint of the table.
+    pub own: Option<usize>,
+    pub names: KeyNames,
+    /// Whether it has DESC or COLLATE.
+    pub marked: bool,
+    /// Whether it has AUTOINCREMENT.
+    pub auto: bool,
 }
 
 impl ConstraintText {
-    pub fn new(
-        primary: bool,
-        own: Option<usize>,
-        names: Vec<Bytes>,
-        marked: bool,
-        auto: bool,
-    ) -> ConstraintText
-        ensures { result ≡ record {
-          primary = primary;
-          own = own;
-          names = names.items;
-          marked = marked;
-          auto = auto;
-        } }
+    ghost use Rattle.create_reader.specs.Views.{names_seen};
+
+    /// The names of its columns, where these are the columns of the table.
+    pub fn names<'a>(&'a self, columns: &'a [ColumnText]) -> &'a [Bytes]
+        ensures { result.now ≡ names_seen columns.now self.now.names }
     {
-        ConstraintText {
-            primary,
-            own,
-            names,
-            marked,
-            auto,
+        match &self.names {
+            KeyNames::OfColumn(number) => name_at(columns, *number),
+            KeyNames::Listed(names) => names.as_slice(),
         }
     }
+}
 
-    /// Whether it is a PRIMARY KEY.
-    pub fn is_primary(&self) -> bool
-        ensures { result ≡ self.now.primary }
-    {
-        self.primary
-    }
-
-    /// The column in which it stands, if it is no constraint of the table.
-    pub fn own(&self) -> Option<usize>
-        ensures { result ≡ self.now.own }
-    {
-        self.own
-    }
-
-    /// The names of its columns.
-    pub fn names(&self) -> &[Bytes]
-        ensures { result.now ≡ self.now.names }
-    {
-        self.names.as_slice()
-    }
-
-    /// Whether it has DESC or COLLATE.
-    pub fn is_marked(&self) -> bool
-        ensures { result ≡ self.now.marked }
-    {
-        self.marked
-    }
-
-    /// Whether it has AUTOINCREMENT.
-    pub fn has_auto(&self) -> bool
-        ensures { result ≡ self.now.auto }
-    {
-        self.auto
+// The name of a column, if there is one with the number.
+fn name_at(columns: &[ColumnText], number: usize) -> &[Bytes]
+    ensures { result.now ≡ name_at (slice_get columns.now number) }
+{
+    match columns.get(number) {
+        Some(column) => slice::from_ref(&column.name),
+        None => &[],
     }
 }
 

@@ -1,6 +1,7 @@
 use Rattle.std.proofs.Common.{◌≡◌, drop}
 use Rattle.std.specs.List.{list_any}
+use Rattle.create_reader.specs.Views.{constraints_seen}
 use Rattle.create_reader.proofs.causes.has_marks.Given as goal
 
 abbrev pub invariant-loop-c : goal.invariant-loop-c
-invariant-loop-c l = list_any (λ c. c.marked) (drop l.c-index l.c-items) ≡ list_any (λ c. c.marked) l.c-items
+invariant-loop-c l = list_any (λ c. c.marked) (constraints_seen l.table.columns.items (drop l.c-index l.c-items)) ≡ list_any (λ c. c.marked) (constraints_seen l.table.columns.items l.c-items)

@@ -1,6 +1,7 @@
 use Rattle.std.proofs.Common.{◌≡◌, drop, map}
 use Rattle.create_reader.specs.Meaning.{primary_in}
+use Rattle.create_reader.specs.Views.{constraint_seen}
 use Rattle.create_reader.proofs.meaning.primary_in.Given as goal
 
 abbrev pub invariant-loop-c : goal.invariant-loop-c
-invariant-loop-c l = primary_in l.columns (map (λ k. k.now) (drop l.c-index l.taken)) ≡ primary_in l.columns (map (λ k. k.now) l.taken)
+invariant-loop-c l = primary_in l.columns (map (λ k. constraint_seen l.columns k.now) (drop l.c-index l.taken)) ≡ primary_in l.columns (map (λ k. constraint_seen l.columns k.now) l.taken)

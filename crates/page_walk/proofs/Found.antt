@@ -5,7 +5,7 @@ use Rattle.std.proofs.lemmas.List.{take_more, drop_more, drop_all, take_all, tak
 use Rattle.std.proofs.lemmas.List.Elements.{filter_agree}
 use Rattle.std.proofs.lemmas.List.FromFn.{get_or-map-range_with_len}
 use Rattle.std.specs.List.{AllByRecursion, filter}
-use Rattle.std.specs.Prelude.{◌&&◌, nat_le, ℤ, pos, negsuc, if◌then◌else◌, option_to_list}
+use Rattle.std.specs.Prelude.{◌&&◌, nat_le, slice_get, ℤ, pos, negsuc, if◌then◌else◌, option_to_list}
 use Rattle.page_access.specs.Pages.{File}
 use Rattle.page_lists.specs.Lists.{firsts, is_in, minus, without}
 use Rattle.page_lists.specs.Table.{is_page}
@@ -184,3 +184,16 @@ found_all f kind root unused found at end was =
     ∙ ap (λ (xs : List ℕ). take at found ++ xs) (sym (rest_none (children f) (minus unused found)))
     ∙ ap (λ (xs : List ℕ). take at found ++ rest_of (children f) (minus unused found) xs) (sym (drop_all at found end))
     ∙ was.rest
+
+-- where a page is found, there are pages of the walk
+pub found_some : (f : File) (kind : Kind) (root : ℤ) (unused found : List ℕ) (at first : ℕ) → slice_get found 0 ≡ Some first
+    → Found f kind root unused found at → walk f unused root kind ≡ [] → ⊥
+found_some f kind root unused [] at first e was none = absurd cc
+found_some f kind root unused (x ∷ xs) zero first e was none =
+    let left : List ℕ = minus unused (x ∷ xs) in
+    let some : x ∷ rest_of (children f) (minus left (firsts left (children f x))) (xs ++ firsts left (children f x)) ≡ [] =
+    sym (rest_step (children f) left x xs) ∙ was.rest ∙ none in
+    cc
+found_some f kind root unused (x ∷ xs) (suc at) first e was none =
+    let some : x ∷ (take at xs ++ rest_of (children f) (minus unused (x ∷ xs)) (drop at xs)) ≡ [] = was.rest ∙ none in
+    cc

@@ -9,6 +9,7 @@ pub mod Recent
 pub mod Small
 pub mod Sorting
 pub mod Surveying
+pub mod Tails
 pub mod Taken
 pub mod Taking
 pub mod Trees

@@ -3,6 +3,7 @@ pub mod Found
 pub mod Going
 pub mod InTurn
 pub mod Levels
+pub mod Local
 pub mod Names
 pub mod Queue
 pub mod Recent

@@ -1,5 +1,5 @@
 //! The payload and the record of an entry.
-ghost use Rattle.std.specs.Prelude.{◌≡◌, ◌≤◌, ◌+◌, ◌*◌, ◌-◌, length, map, IfOk, IfSome, IsErrOf, OnOk, is_ok, option_to_list, if◌then◌else◌};
+ghost use Rattle.std.specs.Prelude.{◌≡◌, ◌≤◌, ◌+◌, ◌*◌, ◌-◌, length, map, IfOk, IfSome, IsErrOf, OnOk, Some, is_ok, option_to_list, if◌then◌else◌};
 ghost use Rattle.page_access.specs.Files.{file_of};
 ghost use Rattle.page_access.specs.Outside.{HasCauseOf, KeepsSource};
 ghost use Rattle.page_access.specs.declared.outside.ReadFault.TheVariants as faults;
@@ -30,18 +30,21 @@ fn cells_have_payload(shape: &PageShape) -> bool
     }
 }
 
-// Appends the bytes of an entry's payload that are not local, and the pages that its chain takes.
+// Appends the bytes of an entry's payload that are not local, and the pages that its chain, which begins
+// with page `first`, takes.
 fn read_rest<S: Source>(
     alloc: Global,
     src: &mut S,
     geo: &Geometry,
     table: &mut PageTable,
     view: &CellView,
+    first: u32,
     chain: &mut Vec<u32>,
     payload: &mut Vec<u8>,
 ) -> Result<ChainEnd, ReadFault>
     requires same_pages { table.old.pages ≡ geo.now.pages }
     requires lists { 7 ≤ length table.old.lists }
+    requires first { view.now.overflow ≡ Some first }
     requires local { view.now.local_start ≤ view.now.local_end }
     requires overflow { HasOverflow view.now.overflow
         (view.now.local_end - view.now.local_start) view.now.total }
@@ -57,9 +60,6 @@ fn read_rest<S: Source>(
     ensures reads { ReadsEach (S.bytes src.old) geo.now table.old table.new
         (S.reads src.old) (S.reads src.new) (if is_ok result then 0 else 1) }
 {
-    let Some(first) = view.overflow else {
-        return Ok(ChainEnd::Whole);
-    };
     let need = view.total - u64::from(view.local_end - view.local_start);
     read_chain(alloc, src, geo, table, first, need, chain, payload)
 }
@@ -123,10 +123,22 @@ fn take_entry<S: Source>(
     ensures reads { ReadsEach (S.bytes src.old) geo.now table.old table.new
         (S.reads src.old) (S.reads src.new) (if is_ok result then 0 else 1) }
 {
-    let mut chain = Vec::new(alloc);
     let local = &page[view.local_start as usize..view.local_end as usize];
+    let Some(first) = view.overflow else {
+        return judge(alloc, place, view.rowid, Vec::new(alloc), local);
+    };
+    let mut chain = Vec::new(alloc);
     let mut payload = Vec::from_slice(alloc, local)?;
-    let end = read_rest(alloc, src, geo, table, view, &mut chain, &mut payload)?;
+    let end = read_rest(
+        alloc,
+        src,
+        geo,
+        table,
+        view,
+        first,
+        &mut chain,
+        &mut payload,
+    )?;
     if end != ChainEnd::Whole {
         return Ok(CellOutcome::Unread {
             cell: place.cell,

@@ -6,7 +6,9 @@ pub mod Levels
 pub mod Local
 pub mod Names
 pub mod Queue
+pub mod Readable
 pub mod Recent
+pub mod Rowids
 pub mod Small
 pub mod Sorting
 pub mod Surveying

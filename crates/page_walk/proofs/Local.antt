@@ -1,5 +1,5 @@
 -- An entry whose payload is all local.
-use Rattle.std.proofs.Common.{◌≡◌, ◌≤◌, ℕ, ◌-◌, ◌*◌, Option, None, List, [], ◌++◌, length, sym, ◌∙◌, ap, subst, arith, append-nil}
+use Rattle.std.proofs.Common.{◌≡◌, ◌≤◌, ℕ, ◌*◌, Option, None, List, [], ◌++◌, length, sym, ◌∙◌, ap, subst, arith, append-nil}
 use Rattle.std.specs.Prelude.{ℤ}
 use Rattle.std.specs.List.{slice_range}
 use Rattle.page_access.specs.Pages.{File}

@@ -1,15 +1,15 @@
 -- The loop over the pages that a walk has found: what it keeps, and what it leaves.
-use Rattle.std.proofs.Common.{◌≡◌, ◌<◌, ◌≤◌, ℕ, zero, suc, ◌+◌, Bool, true, Option, Some, None, List, [], ◌∷◌, ◌++◌, length, drop, slice_get, get_or, refl, sym, ◌∙◌, ap, subst, arith, length-append, length-drop}
+use Rattle.std.proofs.Common.{◌≡◌, ◌<◌, ◌≤◌, ℕ, ◌+◌, Bool, Option, Some, None, List, [], ◌∷◌, ◌++◌, length, drop, slice_get, get_or, refl, sym, ◌∙◌, ap, subst, arith, length-append, length-drop}
 use Rattle.std.specs.List.{filter}
 use Rattle.std.specs.Prelude.{ℤ, option_to_list, IfSome, IsTrue}
 use Rattle.page_access.specs.declared.geometry.Geometry.{Geometry}
 use Rattle.page_access.specs.Files.{IsWhole, file_of}
 use Rattle.page_access.specs.Outside.{KeepsSource}
 use Rattle.page_access.proofs.Keeps.{Passed, passed_more, passed_none}
-use Rattle.page_lists.specs.Lists.{IsPartOf, after, firsts, is_in, minus}
+use Rattle.page_lists.specs.Lists.{IsPartOf, after, firsts, minus}
 use Rattle.page_lists.specs.Table.{Table, IsPartition, Moves, all_moved, list_at, moved, unused}
-use Rattle.page_lists.proofs.Counts.{in_head, in_part, length-minus, part_append}
-use Rattle.page_lists.proofs.Uses.{IsPartition-all_moved, Moves-all, Moves-none, all_moved-append, list_at-all_moved, unused-all_moved, unused_page}
+use Rattle.page_lists.proofs.Counts.{length-minus, part_append}
+use Rattle.page_lists.proofs.Uses.{IsPartition-all_moved, Moves-all, Moves-none, all_moved-append, list_at-all_moved, unused-all_moved}
 use Rattle.cell_reader.specs.declared.shapes.Kind.{Kind}
 use Rattle.page_walk.specs.Pointers.{pointers_on}
 use Rattle.page_walk.specs.Reach.{IsTree}

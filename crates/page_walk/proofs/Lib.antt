@@ -1,5 +1,6 @@
 pub mod Chains
 pub mod Found
+pub mod Fronts
 pub mod Going
 pub mod InTurn
 pub mod Levels

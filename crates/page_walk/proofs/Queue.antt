@@ -47,7 +47,7 @@ rest_level below (p ∷ ps) waiting unused =
     ∙ ap (λ (xs : List ℕ). p ∷ (ps ++ rest_of below (minus unused xs) (waiting ++ xs))) (sym all)
 
 -- the same where no other pages wait
-rest_alone : (below : ℕ → List ℕ) (ps unused : List ℕ)
+pub rest_alone : (below : ℕ → List ℕ) (ps unused : List ℕ)
     → rest_of below unused ps
     ≡ ps ++ rest_of below (minus unused (firsts unused (flat_map below ps))) (firsts unused (flat_map below ps))
 rest_alone below ps unused = ap (rest_of below unused) (sym (append-nil ps)) ∙ rest_level below ps [] unused

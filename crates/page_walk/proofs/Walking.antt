@@ -1,5 +1,5 @@
 -- The loop over the pages that a walk has found: what it keeps, and what it leaves.
-use Rattle.std.proofs.Common.{◌≡◌, ◌<◌, ◌≤◌, ℕ, ◌+◌, Bool, Option, Some, None, List, [], ◌∷◌, ◌++◌, length, drop, slice_get, get_or, refl, sym, ◌∙◌, ap, subst, arith, length-append, length-drop}
+use Rattle.std.proofs.Common.{◌≡◌, ◌<◌, ◌≤◌, ℕ, ◌+◌, Bool, Option, Some, None, List, [], ◌∷◌, ◌++◌, length, take, drop, slice_get, get_or, refl, sym, ◌∙◌, ap, subst, arith, length-append, length-drop}
 use Rattle.std.specs.List.{filter}
 use Rattle.std.specs.Prelude.{ℤ, option_to_list, IfSome, IsTrue}
 use Rattle.page_access.specs.declared.geometry.Geometry.{Geometry}
@@ -7,7 +7,7 @@ use Rattle.page_access.specs.Files.{IsWhole, file_of}
 use Rattle.page_access.specs.Outside.{KeepsSource}
 use Rattle.page_access.proofs.Keeps.{Passed, passed_more, passed_none}
 use Rattle.page_lists.specs.Lists.{IsPartOf, after, firsts, minus}
-use Rattle.page_lists.specs.Table.{Table, IsPartition, Moves, all_moved, list_at, moved, unused}
+use Rattle.page_lists.specs.Table.{Table, IsPartition, Moves, MovesFront, all_moved, list_at, moved, unused}
 use Rattle.page_lists.proofs.Counts.{length-minus, part_append}
 use Rattle.page_lists.proofs.Uses.{IsPartition-all_moved, Moves-all, Moves-none, all_moved-append, list_at-all_moved, unused-all_moved}
 use Rattle.cell_reader.specs.declared.shapes.Kind.{Kind}
@@ -16,7 +16,7 @@ use Rattle.page_walk.specs.Reach.{IsTree}
 use Rattle.page_walk.specs.Taking.{is_of_kind, tail, takes}
 use Rattle.page_walk.specs.Turns.{ReadsEach}
 use Rattle.page_walk.specs.Walk.{kinds_of, page_named, walk}
-use Rattle.page_walk.proofs.Found.{Found, found_start, found_some, found_more, found_all}
+use Rattle.page_walk.proofs.Found.{Found, found_front, found_start, found_some, found_more, found_all}
 use Rattle.page_walk.proofs.Going.{always_told, both_told, one_told}
 use Rattle.page_walk.proofs.Tails.{Stands, get_append, get_none, get_some, list_with, stands}
 use Rattle.page_walk.proofs.Taking.{takes_part}
@@ -355,4 +355,20 @@ queued_some {told = told} {geo = geo} {kind} {root} {src0 = src0} {old = old} {f
     (λ all. walk (file_of all geo) (unused old) asked kind ≡ [] → IsTrue b) (told src0)
     (λ all is none. absurd (found_some (file_of all geo) kind root (unused old) was.found was.turns first was.first_is is
     (ap (λ (z : ℤ). walk (file_of all geo) (unused old) z kind) same ∙ none)))
+    was.walking.found_are
+
+-- the pages that moved are a front of the walk
+pub queued_front : {S : Type 0} {told attached : S → Option (List ℕ)} {faults reads : S → ℕ} {geo : Geometry} {kind : Kind}
+    {root : ℤ} {l : ℕ} {src0 src : S} {old new : Table} {first : ℕ} {here : Option ℕ} (asked : ℤ)
+    → Queued told attached faults reads geo kind root l src0 src old new first here → root ≡ asked
+    → IfSome (told src0) (λ all. MovesFront (walk (file_of all geo) (unused old) asked kind) l old new)
+queued_front {told = told} {geo = geo} {kind} {root} {l} {src0} {old = old} {new} asked was same =
+    one_told (λ all. Found (file_of all geo) kind root (unused old) was.found was.turns)
+    (λ all. MovesFront (walk (file_of all geo) (unused old) asked kind) l old new) (told src0)
+    (λ all is. (
+      length was.found,
+      was.walking.table
+          ∙ ap (λ (ps : List ℕ). all_moved ps l old) (found_front (file_of all geo) kind root (unused old) was.found was.turns is
+          ∙ ap (λ (z : ℤ). take (length was.found) (walk (file_of all geo) (unused old) z kind)) same),
+    ))
     was.walking.found_are

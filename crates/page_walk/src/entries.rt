@@ -3,12 +3,12 @@ ghost use Rattle.std.specs.Prelude.{◌≡◌, ◌≤◌, ◌+◌, ◌*◌, ◌-
 ghost use Rattle.page_access.specs.Files.{file_of};
 ghost use Rattle.page_access.specs.Outside.{HasCauseOf, KeepsSource};
 ghost use Rattle.page_access.specs.declared.outside.ReadFault.TheVariants as faults;
-ghost use Rattle.page_lists.specs.Table.{Moves, all_moved, unused};
+ghost use Rattle.page_lists.specs.Table.{Moves, MovesFront, all_moved, unused};
 ghost use Rattle.record_core.specs.Record.{record_of};
 ghost use Rattle.cell_reader.specs.Inside.{HasOverflow, IsInside, has_payload};
 ghost use Rattle.overflow_chain.specs.Turn.{Takes};
 ghost use Rattle.page_walk.specs.Bounds.{IsSmall};
-ghost use Rattle.page_walk.specs.Cells.{chain_of, chains_of, entry_at, missing, outcome_at, outcome_of, read_as};
+ghost use Rattle.page_walk.specs.Cells.{chain_of, chains_of, entry_at, missing, outcome_at, outcome_of, read_as, turn_from};
 ghost use Rattle.page_walk.specs.Turns.{ReadsEach, RestTaken};
 
 use crate::CellCause;
@@ -54,6 +54,10 @@ fn read_rest<S: Source>(
         chain.old.items chain.new.items payload.old.items payload.new.items end)) }
     ensures taken { OnOk result (Takes (missing view.now) table.old table.new
         chain.old.items chain.new.items payload.old.items payload.new.items) }
+    // at every exit
+    ensures front { IfSome (S.bytes src.old) (λ all. MovesFront
+        (turn_from (file_of all geo.now) (missing view.now) view.now.overflow (unused table.old))
+        4 table.old table.new) }
     ensures cause { HasCauseOf faults.Source (S.faults src.old) (S.faults src.new) result }
     ensures kept { KeepsSource S.bytes S.attached S.faults S.reads src.old src.new }
     ensures moves { Moves 4 table.old table.new }
@@ -117,6 +121,10 @@ fn take_entry<S: Source>(
     ensures moved { IfOk result (λ o. table.new ≡ all_moved (chain_of (outcome_of o)) 4 table.old) }
     ensures small { IfOk result (λ o. IsSmall geo.now.usable geo.now.pages place.page
         (outcome_of o)) }
+    // at every exit
+    ensures front { IfSome (S.bytes src.old) (λ all. MovesFront
+        (turn_from (file_of all geo.now) (missing view.now) view.now.overflow (unused table.old))
+        4 table.old table.new) }
     ensures cause { HasCauseOf faults.Source (S.faults src.old) (S.faults src.new) result }
     ensures kept { KeepsSource S.bytes S.attached S.faults S.reads src.old src.new }
     ensures moves { Moves 4 table.old table.new }
@@ -172,6 +180,11 @@ pub fn take_cell<S: Source>(
         (λ o. table.new ≡ all_moved (chains_of (map outcome_of (option_to_list o))) 4 table.old) }
     ensures small { IfOk result
         (λ o. IfSome o (λ x. IsSmall geo.now.usable geo.now.pages place.page (outcome_of x))) }
+    // at every exit
+    ensures front { IfSome (S.bytes src.old) (λ all. MovesFront
+        (chains_of (outcome_at (file_of all geo.now) page.now place.page
+        (has_payload shape.now.kind shape.now.leaf) place.cell cell (unused table.old)))
+        4 table.old table.new) }
     ensures cause { HasCauseOf faults.Source (S.faults src.old) (S.faults src.new) result }
     ensures kept { KeepsSource S.bytes S.attached S.faults S.reads src.old src.new }
     ensures moves { Moves 4 table.old table.new }

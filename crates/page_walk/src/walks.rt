@@ -5,7 +5,7 @@ ghost use Rattle.page_access.specs.Files.{file_of};
 ghost use Rattle.page_access.specs.Outside.{HasCauseOf, KeepsSource};
 ghost use Rattle.page_access.specs.declared.outside.ReadFault.TheVariants as faults;
 ghost use Rattle.page_lists.specs.Lists.{IsPartOf, is_in};
-ghost use Rattle.page_lists.specs.Table.{IsPartition, Moves, all_moved, list_at, owner, unused};
+ghost use Rattle.page_lists.specs.Table.{IsPartition, Moves, MovesFront, all_moved, list_at, owner, unused};
 ghost use Rattle.page_walk.specs.Bounds.{ArePages};
 ghost use Rattle.page_walk.specs.Reach.{IsTree};
 ghost use Rattle.page_walk.specs.Taking.{is_of_kind, tail, takes};
@@ -49,6 +49,9 @@ pub fn walk_tree<S: Source>(
     // told or not: unused pages of the file, each once
     ensures part { IfOk result (λ v. IsPartOf v.items (unused table.old)) }
     ensures bound { IfOk result (λ v. ArePages geo.now.pages v.items) }
+    // at every exit
+    ensures front { IfSome (S.bytes src.old) (λ all. MovesFront
+        (walk (file_of all geo.now) (unused table.old) root kind) list table.old table.new) }
     ensures cause { HasCauseOf faults.Source (S.faults src.old) (S.faults src.new) result }
     ensures kept { KeepsSource S.bytes S.attached S.faults S.reads src.old src.new }
     ensures moves { Moves list table.old table.new }

@@ -4,8 +4,12 @@ use Rattle.std.proofs.lemmas.List.{length-replicate}
 use Rattle.std.proofs.lemmas.Int.{to_z-of_z}
 use Rattle.page_access.proofs.Caching.{cached_at}
 use Rattle.page_access.proofs.Keeps.{not_failed}
+use Rattle.page_access.specs.Files.{file_of}
+use Rattle.page_lists.specs.Table.{unused}
+use Rattle.page_walk.specs.Walk.{walk}
+use Rattle.page_walk.proofs.Fronts.{moves_none}
 use Rattle.page_walk.proofs.Taking.{part_are_pages}
-use Rattle.page_walk.proofs.Walking.{is_open, no_walk, queued_end, queued_less, queued_more, queued_page, queued_reads, queued_reads_end, queued_some, queued_start, walk_begins, walked_tree, walking_moves}
+use Rattle.page_walk.proofs.Walking.{is_open, no_walk, queued_end, queued_front, queued_less, queued_more, queued_page, queued_reads, queued_reads_end, queued_some, queued_start, walk_begins, walked_tree, walking_moves}
 use Rattle.page_walk.proofs.walks.walk_tree.Goals as goal
 
 pub returns-in_default-clause-value : goal.returns-in_default-clause-value
@@ -163,3 +167,28 @@ returns-clause-moves g c = walking_moves c.loop-at.invariant.queued.walking
 
 pub returns-clause-reads : goal.returns-clause-reads
 returns-clause-reads g c = queued_reads_end _ c.requires.list_least c.loop-at.invariant.queued
+
+pub returns-in_default-clause-front : goal.returns-in_default-clause-front
+returns-in_default-clause-front g c =
+    moves_none _ (λ all. walk (file_of all c.args.geo.now) (unused c.args.table.now) c.args.root c.args.kind) c.args.list c.args.table.now
+
+pub returns-in_err-bytes-clause-front : goal.returns-in_err-bytes-clause-front
+returns-in_err-bytes-clause-front g c =
+    moves_none _ (λ all. walk (file_of all c.args.geo.now) (unused c.args.table.now) c.args.root c.args.kind) c.args.list c.args.table.now
+
+pub returns-in_err-accepted-clause-front : goal.returns-in_err-accepted-clause-front
+returns-in_err-accepted-clause-front g c =
+    moves_none _ (λ all. walk (file_of all c.args.geo.now) (unused c.args.table.now) c.args.root c.args.kind) c.args.list c.args.table.now
+
+pub returns-in_err-named-clause-front : goal.returns-in_err-named-clause-front
+returns-in_err-named-clause-front g c =
+    moves_none _ (λ all. walk (file_of all c.args.geo.now) (unused c.args.table.now) c.args.root c.args.kind) c.args.list c.args.table.now
+
+pub returns-in_err-pointers_with-clause-front : goal.returns-in_err-pointers_with-clause-front
+returns-in_err-pointers_with-clause-front g c = queued_front c.args.root c.loop-at.invariant.queued (to_z-of_z w64 c.args.root (search rules))
+
+pub returns-in_err-pages_from-clause-front : goal.returns-in_err-pages_from-clause-front
+returns-in_err-pages_from-clause-front g c = queued_front c.args.root c.loop-at.invariant.queued (to_z-of_z w64 c.args.root (search rules))
+
+pub returns-clause-front : goal.returns-clause-front
+returns-clause-front g c = queued_front c.args.root c.loop-at.invariant.queued (to_z-of_z w64 c.args.root (search rules))

@@ -130,7 +130,8 @@ pub fn cells_with<S: Source>(
 
 /// Appends what becomes of each cell of the page, in cell order: no item for an accepted cell of an
 /// interior table page, and none for a page without a shape. The overflow pages that the cells take
-/// move to the list of overflow pages. After an error some cells may be there and some pages have moved.
+/// move to the list of overflow pages. After an error the first cells, however many, are there, and the first of
+/// those pages have moved.
 pub fn cells_of<S: Source>(
     alloc: Global,
     src: &mut S,

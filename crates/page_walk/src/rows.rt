@@ -73,8 +73,8 @@ pub fn sort_outcomes(
 
 /// Appends the readable cells of the page in cell order, and notes the others. An interior table page
 /// and a page without a shape have no readable cells; those of the former that are not accepted are
-/// noted. The overflow pages that the cells take move to the list of overflow pages. After an error some
-/// cells may be there and some pages have moved.
+/// noted. The overflow pages that the cells take move to the list of overflow pages. After an error the first
+/// readable cells, however many, are there, and the first of those pages have moved.
 pub fn read_cells<S: Source>(
     alloc: Global,
     src: &mut S,

@@ -22,7 +22,7 @@ use std::alloc::{AllocError, Global};
 /// The pages of the tree with this root, level by level: each next level is the unused children of the
 /// level before, in page order, cell order and the right-most page last. They move to `list`. There
 /// are none where the root is no number of 1 to n, or its page has a use or another kind. After an error
-/// some pages have moved.
+/// the first of them, however many, have moved.
 pub fn walk_tree<S: Source>(
     alloc: Global,
     src: &mut S,

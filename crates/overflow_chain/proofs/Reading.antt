@@ -1,5 +1,5 @@
 -- The loop over the pages of a chain: what holds at each page, and what it leaves at each exit.
-use Rattle.std.proofs.Common.{◌≡◌, ℕ, ◌+◌, ◌-◌, ◌*◌, ◌<◌, ◌≤◌, true, false, if◌then◌else◌, Option, Some, None, IfSome, Result, Ok, Err, IsErr, is_ok, List, [], ◌∷◌, ◌++◌, length, take, refl, sym, ap, ◌∙◌, subst, arith}
+use Rattle.std.proofs.Common.{◌≡◌, ℕ, ◌+◌, ◌-◌, ◌*◌, ◌<◌, ◌≤◌, ◌⊎◌, inl, inr, true, false, if◌then◌else◌, Option, Some, None, IfSome, Result, Ok, Err, IsErr, is_ok, List, [], ◌∷◌, ◌++◌, length, take, refl, sym, ap, ◌∙◌, subst, arith}
 use Rattle.std.proofs.Math.Nat.{mul-le-mul_right}
 use Rattle.std.specs.List.{slice_range}
 use Rattle.byteorder.specs.Endian.{big_number}
@@ -12,12 +12,12 @@ use Rattle.page_lists.specs.Lists.{count, is_in, without}
 use Rattle.page_lists.specs.Table.{Table, IsPartition, Moves, is_page, moved, unused}
 use Rattle.page_lists.proofs.Counts.{length-without}
 use Rattle.page_lists.proofs.Uses.{Moves-append, Moves-none, Moves-one, Moves-partition, count-list_at, unused-moved, unused_not_page, unused_page}
-use Rattle.overflow_chain.specs.Turn.{GivesChain, Turned, bytes_of, turn_of, why_not}
+use Rattle.overflow_chain.specs.Turn.{GivesChain, Turned, TurnsFront, bytes_of, turn_of, why_not}
 use Rattle.overflow_chain.specs.declared.ChainEnd.TheVariants.{Whole, Broken}
 use Rattle.overflow_chain.specs.declared.Why.{Why}
 use Rattle.overflow_chain.specs.declared.Why.TheVariants.{Range}
 use Rattle.overflow_chain.specs.declared.TheConstants.{OVERFLOW_LIST}
-use Rattle.overflow_chain.proofs.Turns.{Turning, turning_start, turning_more, turning_done, turning_broken}
+use Rattle.overflow_chain.proofs.Turns.{Turning, turning_start, turning_more, turning_done, turning_broken, turning_front, turning_front_more}
 use Rattle.overflow_chain.proofs.Taking.{Taking, taking_start, taking_more}
 use Rattle.overflow_chain.proofs.Longest.{whole_turn_is_chain}
 
@@ -166,3 +166,31 @@ paid_err {bytes = bytes} {reads = reads} {geo = geo} {src = src} {src'} {t} {t'}
     told (λ all. Paid reads geo src src' t t' all) (λ all. at * geo.page_size ≤ length all → reads src'' ≤ reads src' + 1)
     (λ all. IsWhole all geo → reads src'' + length (unused t'') ≤ reads src + length (unused t) + 1) (bytes src) (bytes src') reading.kept.told
     (λ all before next whole. omega (arith, before whole, next (omega (arith, whole, mul-le-mul_right geo.page_size page.1)), left)) reading.paid one
+
+-- a front of the turn was taken, where the loop ends
+pub reading_front : {S : Type 0} {bytes attached : S → Option (List ℕ)} {faults reads : S → ℕ} {geo : Geometry} {q need : ℕ} {src src' : S} {t t' : Table} {pages pages' to to' : List ℕ} {missing at : ℕ}
+    → Reading bytes attached faults reads geo q need src src' t t' pages pages' to to' missing at
+    → IfSome (bytes src) (λ all. TurnsFront (file_of all geo) q need t t' pages pages' to to')
+reading_front {bytes = bytes} {geo = geo} {q} {need} {src} {t = t} {t'} {pages} {pages'} {to} {to'} {missing} {at} r =
+    told_one (λ all. Turning (file_of all geo) q need t t' pages pages' to to' missing at) (λ all. TurnsFront (file_of all geo) q need t t' pages pages' to to') (bytes src)
+    (λ all before. turning_front (file_of all geo) q need t t' pages pages' to to' missing at before) r.so_far
+
+-- the same where its next page was not taken, or was appended alone
+pub reading_front_err : {S : Type 0} {bytes attached : S → Option (List ℕ)} {faults reads : S → ℕ} {geo : Geometry} {q need : ℕ} {src src' : S} {t t' : Table} {pages pages' to to' : List ℕ} {missing at : ℕ}
+    → (t'' : Table) (pages'' to'' : List ℕ) → Reading bytes attached faults reads geo q need src src' t t' pages pages' to to' missing at → 0 < missing → is_in at (unused t') ≡ true
+    → t'' ≡ t' → to'' ≡ to' → (pages'' ≡ pages') ⊎ (pages'' ≡ pages' ++ at ∷ [])
+    → IfSome (bytes src) (λ all. TurnsFront (file_of all geo) q need t t'' pages pages'' to to'')
+reading_front_err {bytes = bytes} {geo = geo} {q} {need} {src} {t = t} {t'} {pages} {pages'} {to} {to'} {missing} {at} t'' pages'' to'' r some there same_table same_bytes grown =
+    rw (same_table, same_bytes) (elim grown [
+      | inl same ↦ rw same (reading_front r)
+      | inr pushed ↦
+          told_one (λ all. Turning (file_of all geo) q need t t' pages pages' to to' missing at) (λ all. TurnsFront (file_of all geo) q need t t' pages pages'' to to') (bytes src)
+          (λ all before. turning_front_more (file_of all geo) q need t t' pages pages' pages'' to to' missing at geo.usable_least some there pushed before) r.so_far
+    ])
+
+-- nothing was taken yet
+pub front_none : (o : Option (List ℕ)) (geo : Geometry) (q need : ℕ) (t : Table) (pages to : List ℕ)
+    → IfSome o (λ all. TurnsFront (file_of all geo) q need t t pages pages to to)
+front_none o geo q need t pages to =
+    always (λ all. TurnsFront (file_of all geo) q need t t pages pages to to) o
+    (λ all. turning_front (file_of all geo) q need t t pages pages to to need q (turning_start (file_of all geo) q need t pages to))

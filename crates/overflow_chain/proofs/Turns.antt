@@ -1,6 +1,7 @@
 -- The turn of a payload, page after page: what is taken so far, and what the rest gives.
 use Rattle.std.proofs.Common.{◌≡◌, ℕ, zero, suc, ◌+◌, ◌-◌, ◌*◌, ◌/◌, ◌<◌, ◌≤◌, true, false, List, [], ◌∷◌, ◌++◌, length, take, drop, replicate, refl, sym, ap, ◌∙◌, inl, inr, arith, length-append}
 use Rattle.std.proofs.Math.Nat.{add-div_right, div-eq_of_lt}
+use Rattle.std.proofs.Math.Seq.{take-append_seam}
 use Rattle.std.proofs.lemmas.Bool.{cases_lt}
 use Rattle.std.proofs.lemmas.List.{append-nil, append_assoc, length-take, length-drop, length-replicate}
 use Rattle.std.specs.List.{slice_range}
@@ -10,7 +11,7 @@ use Rattle.page_lists.specs.Lists.{is_in, without}
 use Rattle.page_lists.specs.Table.{Table, moved, unused, all_moved}
 use Rattle.page_lists.proofs.Uses.{unused-moved, all_moved-append}
 use Rattle.overflow_chain.specs.Chain.{chain_len, content_of, contents, next_page}
-use Rattle.overflow_chain.specs.Turn.{Turned, bytes_of, end_of, turn_of, why_not}
+use Rattle.overflow_chain.specs.Turn.{Turned, TurnsFront, bytes_of, end_of, turn_of, why_not}
 use Rattle.overflow_chain.specs.declared.ChainEnd.TheVariants.{Whole, Broken}
 use Rattle.overflow_chain.specs.declared.Why.{Why}
 use Rattle.overflow_chain.specs.declared.TheConstants.{OVERFLOW_LIST}
@@ -125,6 +126,40 @@ turning_more f q need old now next pages pages' pages'' to to' to'' buffer missi
       rest_pages = rw (left, follow, append_assoc) (ap (λ (xs : List ℕ). t.passed ++ xs) (sym (turn_taken f at missing (unused now) big some there)) ∙ t.rest_pages);
       rest_bytes = rw (left, follow, append_assoc) (ap (λ (xs : List ℕ). t.gained ++ xs) (sym (bytes_taken f at missing (unused now) big fits some there)) ∙ t.rest_bytes);
       rest_end = rw (left, follow) (sym (end_taken f at missing (unused now) big some there) ∙ t.rest_end);
+    }
+
+-- what stands before the rest of a list is a front of it
+pub front_is : {X : Type 0} (front rest all : List X) → front ++ rest ≡ all → front ≡ take (length front) all
+front_is front rest all e = sym (take-append_seam front rest) ∙ ap (take (length front)) e
+
+pub turning_front : (f : File) (q need : ℕ) (old now : Table) (pages pages' to to' : List ℕ) (missing at : ℕ)
+    → Turning f q need old now pages pages' to to' missing at → TurnsFront f q need old now pages pages' to to'
+turning_front f q need old now pages pages' to to' missing at t =
+    let passed = front_is t.passed (turn_of f at missing (unused now)) (turn_of f q need (unused old)) t.rest_pages in
+    record {
+      page_count = length t.passed;
+      pages_are = t.pages_are ∙ ap (λ (xs : List ℕ). pages ++ xs) passed;
+      byte_count = length t.gained;
+      bytes_are = t.bytes_are ∙ ap (λ (xs : List ℕ). to ++ xs) (front_is t.gained (bytes_of f at missing (unused now)) (bytes_of f q need (unused old)) t.rest_bytes);
+      moved = (length t.passed, t.table_is ∙ ap (λ (xs : List ℕ). all_moved xs OVERFLOW_LIST old) passed);
+    }
+
+-- the same where the next page is appended and does not move
+pub turning_front_more : (f : File) (q need : ℕ) (old now : Table) (pages pages' pages'' to to' : List ℕ) (missing at : ℕ) → 480 ≤ f.usable
+    → 0 < missing → is_in at (unused now) ≡ true → pages'' ≡ pages' ++ at ∷ []
+    → Turning f q need old now pages pages' to to' missing at → TurnsFront f q need old now pages pages'' to to'
+turning_front_more f q need old now pages pages' pages'' to to' missing at big some there pushed t =
+    let was = turning_front f q need old now pages pages' to to' missing at t in
+    let later : List ℕ = turn_of f (next_page f at) (missing - (f.usable - 4)) (without at (unused now)) in
+    let all : (t.passed ++ at ∷ []) ++ later ≡ turn_of f q need (unused old) =
+    append_assoc t.passed (at ∷ []) later ∙ ap (λ (xs : List ℕ). t.passed ++ xs) (sym (turn_taken f at missing (unused now) big some there)) ∙ t.rest_pages in
+    record {
+      page_count = length (t.passed ++ at ∷ []);
+      pages_are = pushed ∙ ap (λ (xs : List ℕ). xs ++ at ∷ []) t.pages_are ∙ append_assoc pages t.passed (at ∷ [])
+          ∙ ap (λ (xs : List ℕ). pages ++ xs) (front_is (t.passed ++ at ∷ []) later (turn_of f q need (unused old)) all);
+      byte_count = was.byte_count;
+      bytes_are = was.bytes_are;
+      moved = was.moved;
     }
 
 -- nothing is missing

@@ -3,7 +3,7 @@ use Rattle.std.specs.Prelude.{◌≡◌, ℕ, zero, suc, ◌≤◌, ◌+◌, if�
 use Rattle.std.specs.List.{AllByRecursion}
 use Rattle.page_access.specs.Pages.{File}
 use Rattle.page_lists.specs.Lists.{IsPartOf, is_in, without}
-use Rattle.page_lists.specs.Table.{Table, is_page, unused, all_moved}
+use Rattle.page_lists.specs.Table.{MovesFront, Table, is_page, unused, all_moved}
 use Rattle.overflow_chain.specs.Chain.{IsChain, chain_len, contents, next_page}
 use Rattle.overflow_chain.specs.declared.Why.{Why}
 use Rattle.overflow_chain.specs.declared.Why.TheVariants.{Range, Used}
@@ -44,6 +44,15 @@ pub record Turned (f : File) (q need : ℕ) (old new : Table) (pages pages' to t
   pub bytes_are : to' ≡ to ++ bytes_of f q need (unused old)
   pub table_is : new ≡ all_moved (turn_of f q need (unused old)) OVERFLOW_LIST old
   pub end_is : end ≡ end_of f q need (unused old)
+
+-- a turn was taken so far: a front of its pages and a front of its bytes are appended, and a front of its pages
+-- have their use
+pub record TurnsFront (f : File) (q need : ℕ) (old new : Table) (pages pages' to to' : List ℕ) : Type 0 where
+  pub page_count : ℕ
+  pub pages_are : pages' ≡ pages ++ take page_count (turn_of f q need (unused old))
+  pub byte_count : ℕ
+  pub bytes_are : to' ≡ to ++ take byte_count (bytes_of f q need (unused old))
+  pub moved : MovesFront (turn_of f q need (unused old)) OVERFLOW_LIST old new
 
 -- where the end is whole, the appended pages and bytes are the overflow chain
 abbrev pub GivesChain : File → ℕ → ℕ → List ℕ → List ℕ → List ℕ → List ℕ → ChainEnd → Type 0

@@ -1,5 +1,5 @@
 //! Reading a chain page by page.
-ghost use Rattle.std.specs.Prelude.{◌≡◌, ℕ, ◌+◌, ◌-◌, ◌*◌, ◌<◌, ◌≤◌, true, false, if◌then◌else◌, [], ◌∷◌, ◌++◌, length, take, IfNone, IfOk, IfSome, OnErr, OnOk, is_ok};
+ghost use Rattle.std.specs.Prelude.{◌≡◌, ℕ, ◌+◌, ◌-◌, ◌*◌, ◌<◌, ◌≤◌, ◌⊎◌, true, false, if◌then◌else◌, [], ◌∷◌, ◌++◌, length, take, IfNone, IfOk, IfSome, OnErr, OnOk, is_ok};
 ghost use Rattle.std.specs.List.{slice_range};
 ghost use Rattle.page_access.specs.Files.{IsWhole, file_of};
 ghost use Rattle.page_access.specs.Outside.{HasCauseOf, KeepsSource};
@@ -7,7 +7,7 @@ ghost use Rattle.page_access.specs.Pages.{page_of};
 ghost use Rattle.page_access.specs.declared.outside.ReadFault.TheVariants as faults;
 ghost use Rattle.page_lists.specs.Lists.{is_in};
 ghost use Rattle.page_lists.specs.Table.{IsPartition, Moves, moved, unused};
-ghost use Rattle.overflow_chain.specs.Turn.{GivesChain, Takes, Turned, why_not};
+ghost use Rattle.overflow_chain.specs.Turn.{GivesChain, Takes, Turned, TurnsFront, why_not};
 
 use crate::{ChainEnd, OVERFLOW_LIST, Why};
 use byteorder::{BigEndian, ByteOrder};
@@ -38,6 +38,10 @@ pub fn read_chain<S: Source>(
     ensures chain { IfOk result (λ end. IfSome (S.bytes src.old)
         (λ all. GivesChain (file_of all geo.now) first need
         pages.old.items pages.new.items to.old.items to.new.items end)) }
+    // at every exit
+    ensures front { IfSome (S.bytes src.old)
+        (λ all. TurnsFront (file_of all geo.now) first need table.old table.new
+        pages.old.items pages.new.items to.old.items to.new.items) }
     ensures taken { OnOk result (Takes need table.old table.new
         pages.old.items pages.new.items to.old.items to.new.items) }
     ensures cause { HasCauseOf faults.Source (S.faults src.old) (S.faults src.new) result }
@@ -110,6 +114,9 @@ fn take_page<S: Source>(
         (to.new.items ≡ to.old.items ++ take missing (slice_range buffer.new 4 geo.now.usable)) }
     ensures moved { OnOk result (table.new ≡ moved at OVERFLOW_LIST table.old) }
     ensures err { OnErr result (table.new ≡ table.old) }
+    ensures err_bytes { OnErr result (to.new.items ≡ to.old.items) }
+    ensures err_pages { OnErr result ((pages.new.items ≡ pages.old.items)
+        ⊎ (pages.new.items ≡ pages.old.items ++ at ∷ [])) }
     ensures cause { HasCauseOf faults.Source (S.faults src.old) (S.faults src.new) result }
     ensures kept { KeepsSource S.bytes S.attached S.faults S.reads src.old src.new }
     ensures reads { IfSome (S.bytes src.old)

@@ -1,6 +1,6 @@
 -- What holds of all turns and walks.
-use Rattle.std.proofs.Common.{◌≡◌, ◌≤◌, ℕ, suc, ◌+◌, Bool, true, false, Option, Some, None, Result, Ok, Err, List, [], ◌∷◌, ◌++◌, length, map, refl, sym, ◌∙◌, ap, subst, inl, inr, arith, append_assoc, append-nil}
-use Rattle.std.specs.Prelude.{ℤ, pos, negsuc}
+use Rattle.std.proofs.Common.{◌≡◌, ◌≤◌, ℕ, ◌+◌, Bool, true, false, Option, Some, None, Result, Ok, Err, List, [], ◌∷◌, ◌++◌, length, map, refl, sym, ◌∙◌, ap, subst, inl, inr, arith, append_assoc, append-nil}
+use Rattle.std.specs.Prelude.{ℤ}
 use Rattle.std.specs.List.{slice_range}
 use Rattle.std.proofs.lemmas.Grind.{flat_map-append}
 use Rattle.std.proofs.lemmas.Bool.{and_parts, cases_Bool, false≢true}
@@ -21,10 +21,10 @@ use Rattle.overflow_chain.specs.declared.ChainEnd.{ChainEnd}
 use Rattle.overflow_chain.specs.declared.ChainEnd.TheVariants.{Whole, Broken}
 use Rattle.overflow_chain.proofs.Longest.{turn_part}
 use Rattle.page_walk.specs.Cells.{Outcome, bytes_from, chain_of, chains_of, end_from, ended_as, entry_at, missing, outcome_at, outcomes_from, outcomes_in, outcomes_on, outcomes_with, read_as, turn_from}
-use Rattle.page_walk.specs.Laws.{CellsRise, ChainsAreUnused, IsWalkOf, Rises, TurnsAlwaysGoOn, TurnsGoOn, WalksAreUnused, number_of}
+use Rattle.page_walk.specs.Laws.{CellsRise, ChainsAreUnused, IsWalkOf, Rises, TurnsAlwaysGoOn, WalksAreUnused, number_of}
 use Rattle.page_walk.specs.Page.{screened_as, shape_on}
 use Rattle.page_walk.specs.Turns.{chains_on, left_by, turns_on}
-use Rattle.page_walk.specs.Walk.{IsChild, children, is_root, kind_on, levels_from, page_named, same_kind, walk, walk_from}
+use Rattle.page_walk.specs.Walk.{children, is_root, kind_on, levels_from, page_named, same_kind, walk, walk_from}
 use Rattle.page_walk.proofs.Levels.{levels_once, levels_within}
 use Rattle.page_walk.proofs.Trees.{children_are_named, same_kind_tells}
 
@@ -60,7 +60,7 @@ entry_chain f page p i v unused =
     chain_ended p i v.rowid (turn_from f (missing v) v.overflow unused) (slice_range page v.local_start v.local_end ++ bytes_from f (missing v) v.overflow unused)
     (end_from f (missing v) v.overflow unused)
 
-from_part : (f : File) (need : ℕ) (overflow : Option ℕ) (unused : List ℕ) → IsPartOf (turn_from f need overflow unused) unused
+pub from_part : (f : File) (need : ℕ) (overflow : Option ℕ) (unused : List ℕ) → IsPartOf (turn_from f need overflow unused) unused
 from_part f need None unused = part_none unused
 from_part f need (Some q) unused = turn_part (next_page f) (chain_len f need) unused q
 
@@ -145,7 +145,7 @@ number_ended : (p i : ℕ) (rowid : Option ℤ) (chain payload : List ℕ) (end 
 number_ended p i rowid chain payload Whole = number_read p i rowid chain (record_of payload)
 number_ended p i rowid chain payload (Broken at why) = refl
 
-entry_number : (f : File) (page : List ℕ) (p i : ℕ) (v : CellView) (unused : List ℕ) → number_of (entry_at f page p i v unused) ≡ i
+pub entry_number : (f : File) (page : List ℕ) (p i : ℕ) (v : CellView) (unused : List ℕ) → number_of (entry_at f page p i v unused) ≡ i
 unfolding entry_at
 entry_number f page p i v unused =
     number_ended p i v.rowid (turn_from f (missing v) v.overflow unused) (slice_range page v.local_start v.local_end ++ bytes_from f (missing v) v.overflow unused)

@@ -1,22 +1,23 @@
 -- The pages that a walk has found: those that had their turn to name children, and those that wait for it.
 use Rattle.std.proofs.Common.{◌≡◌, ◌<◌, ◌≤◌, ℕ, zero, suc, ◌+◌, ◌-◌, Bool, true, false, Option, Some, None, List, [], ◌∷◌, ◌++◌, length, take, drop, get_or, refl, sym, ◌∙◌, ap, subst, inl, inr, arith, append_assoc, append-nil}
 use Rattle.std.proofs.lemmas.Bool.{and_parts, cases_Bool, leb-true}
-use Rattle.std.proofs.lemmas.List.{take_more, drop_more, drop_all, take_all, take-append-le, drop-append-le}
+use Rattle.std.proofs.lemmas.List.{take_more, drop_more, drop_all, take_all, take-append-drop, take-append-le, drop-append-le}
 use Rattle.std.proofs.lemmas.List.Elements.{filter_agree}
 use Rattle.std.proofs.lemmas.List.FromFn.{get_or-map-range_with_len}
-use Rattle.std.specs.List.{AllByRecursion, filter}
-use Rattle.std.specs.Prelude.{◌&&◌, nat_le, ℤ, pos, negsuc, if◌then◌else◌, option_to_list}
+use Rattle.std.specs.List.{AllByRecursion, filter, flat_map}
+use Rattle.std.specs.Prelude.{◌&&◌, nat_le, slice_get, ℤ, pos, negsuc, if◌then◌else◌, option_to_list}
 use Rattle.page_access.specs.Pages.{File}
 use Rattle.page_lists.specs.Lists.{firsts, is_in, minus, without}
 use Rattle.page_lists.specs.Table.{is_page}
 use Rattle.page_lists.proofs.Counts.{minus-append}
 use Rattle.cell_reader.specs.declared.shapes.Kind.{Kind}
+use Rattle.overflow_chain.proofs.Turns.{front_is}
 use Rattle.page_walk.specs.Kinds.{kind_at}
 use Rattle.page_walk.specs.Pointers.{pointers_on}
 use Rattle.page_walk.specs.Taking.{is_of_kind}
 use Rattle.page_walk.specs.Walk.{children, kind_on, kinds_of, levels_from, page_named, same_kind, walk, walk_from}
 use Rattle.page_walk.proofs.Going.{all_append}
-use Rattle.page_walk.proofs.Queue.{levels_are_rest, rest_none, rest_of, rest_step}
+use Rattle.page_walk.proofs.Queue.{levels_are_rest, rest_alone, rest_none, rest_of, rest_step}
 use Rattle.page_walk.proofs.Trees.{same_kind_tells}
 
 -- pages of the kind
@@ -184,3 +185,30 @@ found_all f kind root unused found at end was =
     ∙ ap (λ (xs : List ℕ). take at found ++ xs) (sym (rest_none (children f) (minus unused found)))
     ∙ ap (λ (xs : List ℕ). take at found ++ rest_of (children f) (minus unused found) xs) (sym (drop_all at found end))
     ∙ was.rest
+
+-- where a page is found, there are pages of the walk
+pub found_some : (f : File) (kind : Kind) (root : ℤ) (unused found : List ℕ) (at first : ℕ) → slice_get found 0 ≡ Some first
+    → Found f kind root unused found at → walk f unused root kind ≡ [] → ⊥
+found_some f kind root unused [] at first e was none = absurd cc
+found_some f kind root unused (x ∷ xs) zero first e was none =
+    let left : List ℕ = minus unused (x ∷ xs) in
+    let some : x ∷ rest_of (children f) (minus left (firsts left (children f x))) (xs ++ firsts left (children f x)) ≡ [] =
+    sym (rest_step (children f) left x xs) ∙ was.rest ∙ none in
+    cc
+found_some f kind root unused (x ∷ xs) (suc at) first e was none =
+    let some : x ∷ (take at xs ++ rest_of (children f) (minus unused (x ∷ xs)) (drop at xs)) ≡ [] = was.rest ∙ none in
+    cc
+
+-- they are a front of the walk
+pub found_front : (f : File) (kind : Kind) (root : ℤ) (unused found : List ℕ) (at : ℕ) → Found f kind root unused found at
+    → found ≡ take (length found) (walk f unused root kind)
+found_front f kind root unused found at was =
+    let left : List ℕ = minus unused found in
+    let more : List ℕ = firsts left (flat_map (children f) (drop at found)) in
+    let later : List ℕ = rest_of (children f) (minus left more) more in
+    let all : found ++ later ≡ walk f unused root kind =
+    ap (λ (xs : List ℕ). xs ++ later) (sym (take-append-drop at found))
+    ∙ append_assoc (take at found) (drop at found) later
+    ∙ ap (λ (xs : List ℕ). take at found ++ xs) (sym (rest_alone (children f) (drop at found) left))
+    ∙ was.rest in
+    front_is found later (walk f unused root kind) all

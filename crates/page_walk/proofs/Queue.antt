@@ -1,8 +1,8 @@
 -- The pages of a walk one after another: each page found goes behind those that wait, and the levels joined are these pages.
-use Rattle.std.proofs.Common.{◌≡◌, ℕ, zero, suc, ◌+◌, ◌≤◌, true, List, [], ◌∷◌, ◌++◌, length, refl, sym, ap, ◌∙◌, inl, inr, arith, append_assoc, append-nil, length-append}
+use Rattle.std.proofs.Common.{◌≡◌, ℕ, zero, suc, ◌+◌, ◌≤◌, true, List, [], ◌∷◌, ◌++◌, length, refl, sym, ap, ◌∙◌, arith, append_assoc, append-nil, length-append}
 use Rattle.std.specs.List.{flat_map}
 use Rattle.page_lists.specs.Lists.{IsPartOf, is_in, firsts, minus, without}
-use Rattle.page_lists.proofs.Counts.{in_or_not, minus-append, length-minus, length-without, firsts_part, firsts-append, firsts_none}
+use Rattle.page_lists.proofs.Counts.{minus-append, length-minus, length-without, firsts_part, firsts-append, firsts_none}
 use Rattle.page_walk.specs.Walk.{levels, levels_from}
 
 -- the pages still to come, where the pages of `waiting` are found and their children are not looked at yet
@@ -47,7 +47,7 @@ rest_level below (p ∷ ps) waiting unused =
     ∙ ap (λ (xs : List ℕ). p ∷ (ps ++ rest_of below (minus unused xs) (waiting ++ xs))) (sym all)
 
 -- the same where no other pages wait
-rest_alone : (below : ℕ → List ℕ) (ps unused : List ℕ)
+pub rest_alone : (below : ℕ → List ℕ) (ps unused : List ℕ)
     → rest_of below unused ps
     ≡ ps ++ rest_of below (minus unused (firsts unused (flat_map below ps))) (firsts unused (flat_map below ps))
 rest_alone below ps unused = ap (rest_of below unused) (sym (append-nil ps)) ∙ rest_level below ps [] unused

@@ -1,5 +1,5 @@
 -- The pages that a cache has after a survey: those asked for last stand first.
-use Rattle.std.proofs.Common.{◌≡◌, ◌≤◌, ◌<◌, inl, inr, ℕ, zero, suc, ◌+◌, ◌-◌, true, nat_eq, Option, Some, None, Result, Ok, OnOk, List, [], ◌∷◌, take, refl, sym, ◌∙◌, ap, subst, arith}
+use Rattle.std.proofs.Common.{◌≡◌, ◌≤◌, ◌<◌, inl, inr, ℕ, zero, suc, ◌+◌, ◌-◌, nat_eq, Option, Some, None, Result, Ok, OnOk, List, [], ◌∷◌, take, refl, sym, ◌∙◌, subst, arith}
 use Rattle.std.specs.Prelude.{is_some, IsTrue}
 use Rattle.std.specs.Map.{lookup, remove_entry}
 use Rattle.std.proofs.lemmas.Bool.{ne_eqb}

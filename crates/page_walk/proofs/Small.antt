@@ -113,17 +113,22 @@ read_small usable pages page i rowid chain payload are le = by_read (record_of p
         record { on_page = refl; few = s.few; short = omega (arith, s.short); chain = are }
     by_read (Err fault) e = are
 
+-- the pages that an entry took are pages of the file
+pub taken_pages : (need pages : ℕ) (old new : Table) (none chain local payload : List ℕ) → Takes need old new none chain local payload
+    → none ≡ [] → old.pages ≡ pages → ArePages pages chain
+taken_pages need pages old new none chain local payload took empty same =
+    subst (λ (k : ℕ). ArePages k chain) same
+    (subst (λ (ps : List ℕ). ArePages old.pages ps) (sym (took.pages_are ∙ ap (λ ps. ps ++ took.taken) empty)) took.inside)
+
 -- an entry that is read gives no more than its payload has
 pub entry_small : (usable pages page i n total need : ℕ) (rowid : Option ℤ) (overflow : Option ℕ) (old new : Table)
     (none chain local payload bytes : List ℕ) (o : Outcome) → o ≡ read_as page i rowid chain (record_of bytes) → bytes ≡ payload
     → Takes need old new none chain local payload → none ≡ [] → old.pages ≡ pages → length local ≡ n
     → HasOverflow overflow n total → need ≡ total - n → total ≤ pages * usable → IsSmall usable pages page o
 entry_small usable pages page i n total need rowid overflow old new none chain local payload bytes o is seen took empty same len has e most =
-    let are : ArePages old.pages chain = subst (λ (ps : List ℕ). ArePages old.pages ps)
-    (sym (took.pages_are ∙ ap (λ ps. ps ++ took.taken) empty)) took.inside in
     let part : n ≤ total = most_local overflow has in
     subst (λ (x : Outcome). IsSmall usable pages page x) (sym is)
-    (read_small usable pages page i rowid chain bytes (subst (λ (k : ℕ). ArePages k chain) same are)
+    (read_small usable pages page i rowid chain bytes (taken_pages need pages old new none chain local payload took empty same)
     (omega (arith, ap length seen, took.room, len, e, most, part)))
   where
     most_local : (overflow : Option ℕ) → HasOverflow overflow n total → n ≤ total

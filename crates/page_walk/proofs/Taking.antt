@@ -1,5 +1,5 @@
 -- Pages that a walk takes, one after another.
-use Rattle.std.proofs.Common.{◌≡◌, ◌<◌, ◌≤◌, ℕ, ◌+◌, Option, List, [], ◌∷◌, ◌++◌, length, take, get_or, sym, ◌∙◌, ap, subst, arith, append_assoc}
+use Rattle.std.proofs.Common.{◌≡◌, ◌<◌, ◌≤◌, ℕ, ◌+◌, Option, List, [], ◌∷◌, ◌++◌, length, take, get_or, sym, ◌∙◌, ap, arith}
 use Rattle.std.proofs.lemmas.List.{take_more}
 use Rattle.std.proofs.lemmas.List.Elements.{filter-append}
 use Rattle.std.specs.List.{filter}
@@ -9,7 +9,7 @@ use Rattle.page_lists.proofs.Counts.{firsts_part, in_head, in_part}
 use Rattle.page_lists.proofs.Uses.{all_moved-append, pages-all_moved, unused-all_moved, unused_page}
 use Rattle.cell_reader.specs.declared.shapes.Kind.{Kind}
 use Rattle.page_walk.specs.Bounds.{ArePages}
-use Rattle.page_walk.specs.Taking.{Took, is_of_kind, takes}
+use Rattle.page_walk.specs.Taking.{is_of_kind, takes}
 use Rattle.page_lists.proofs.Counts.{firsts-append}
 
 -- unused pages are pages of the file
@@ -26,14 +26,6 @@ part_are_pages (p ∷ ps) pages t each same part =
 pub takes_part : (kinds : List (Option Kind)) (kind : Kind) (t : Table) (qs : List ℕ) → IsPartOf (takes kinds kind t qs) (unused t)
 takes_part kinds kind t qs = firsts_part (unused t) (filter (is_of_kind kinds t.pages kind) qs)
 
--- some pages were taken, and then more
-pub took_more : {l : ℕ} {ps qs : List ℕ} {a b c : Table} {before now after : List ℕ}
-    → Took l ps a b before now → Took l qs b c now after → Took l (ps ++ qs) a c before after
-took_more {l} {ps} {qs} {a} {b} {c} {before} was more = record {
-  found = more.found ∙ ap (λ (xs : List ℕ). xs ++ qs) was.found ∙ append_assoc before ps qs;
-  table = more.table ∙ ap (all_moved qs l) was.table ∙ sym (all_moved-append ps qs l a);
-}
-
 -- what is taken of some numbers, and then of more
 takes-append : (kinds : List (Option Kind)) (kind : Kind) (l : ℕ) (t t' : Table) (qs rest : List ℕ) → 1 ≤ l
     → t' ≡ all_moved (takes kinds kind t qs) l t
@@ -49,11 +41,14 @@ takes-append kinds kind l t t' qs rest least is =
     ∙ ap (λ (n : ℕ). takes kinds kind t qs ++ firsts (unused t') (filter (is_of_kind kinds n kind) rest)) (sym pages)
 
 -- the next of the numbers
-pub takes_more : (kinds : List (Option Kind)) (kind : Kind) (l : ℕ) (a b c : Table) (before now after qs : List ℕ) (i d : ℕ)
-    → 1 ≤ l → i < length qs → Took l (takes kinds kind a (take i qs)) a b before now
-    → Took l (takes kinds kind b (get_or qs i d ∷ [])) b c now after
-    → Took l (takes kinds kind a (take (i + 1) qs)) a c before after
-takes_more kinds kind l a b c before now after qs i d least lt was more =
+pub takes_more : (kinds : List (Option Kind)) (kind : Kind) (l : ℕ) (a b c : Table) (qs : List ℕ) (i d : ℕ)
+    → 1 ≤ l → i < length qs → b ≡ all_moved (takes kinds kind a (take i qs)) l a
+    → c ≡ all_moved (takes kinds kind b (get_or qs i d ∷ [])) l b
+    → c ≡ all_moved (takes kinds kind a (take (i + 1) qs)) l a
+takes_more kinds kind l a b c qs i d least lt was more =
     let all : takes kinds kind a (take (i + 1) qs) ≡ takes kinds kind a (take i qs) ++ takes kinds kind b (get_or qs i d ∷ []) =
-    ap (takes kinds kind a) (take_more qs i d lt) ∙ takes-append kinds kind l a b (take i qs) (get_or qs i d ∷ []) least was.table in
-    subst (λ (ps : List ℕ). Took l ps a c before after) (sym all) (took_more was more)
+    ap (takes kinds kind a) (take_more qs i d lt) ∙ takes-append kinds kind l a b (take i qs) (get_or qs i d ∷ []) least was in
+    more
+    ∙ ap (all_moved (takes kinds kind b (get_or qs i d ∷ [])) l) was
+    ∙ sym (all_moved-append (takes kinds kind a (take i qs)) (takes kinds kind b (get_or qs i d ∷ [])) l a)
+    ∙ ap (λ (ps : List ℕ). all_moved ps l a) (sym all)

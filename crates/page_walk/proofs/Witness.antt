@@ -38,11 +38,11 @@ fewer_without : (q p : ℕ) (xs : List ℕ) → count q (without p xs) ≤ count
 fewer_without q p [] = omega arith
 fewer_without q p (x ∷ xs) = one_fewer q p x xs (x == p) (fewer_without q p xs)
 
-fewer_minus : (q : ℕ) (xs ps : List ℕ) → count q (minus xs ps) ≤ count q xs
+pub fewer_minus : (q : ℕ) (xs ps : List ℕ) → count q (minus xs ps) ≤ count q xs
 fewer_minus q xs [] = omega arith
 fewer_minus q xs (p ∷ ps) = omega (arith, fewer_minus q (without p xs) ps, fewer_without q p xs)
 
-rows_append : (xs ys : List Outcome) → rows_of (xs ++ ys) ≡ rows_of xs ++ rows_of ys
+pub rows_append : (xs ys : List Outcome) → rows_of (xs ++ ys) ≡ rows_of xs ++ rows_of ys
 rows_append [] ys = refl
 rows_append (Read row ∷ xs) ys = ap (λ (rs : List Row). row ∷ rs) (rows_append xs ys)
 rows_append (Unread u ∷ xs) ys = rows_append xs ys

@@ -1,9 +1,14 @@
 -- What holds of all turns and walks (docs/ARCHITECTURE.md, "Order of use").
-use Rattle.std.specs.Prelude.{◌≡◌, ◌≤◌, ℕ, ◌+◌, ℤ, true, Some, List, [], ◌∷◌, ◌++◌, map}
+use Rattle.std.specs.Prelude.{◌≡◌, ◌≤◌, ◌↔◌, ℕ, ◌+◌, ℤ, nat_lt, Bool, true, Some, None, is_some, IsTrue, List, [], ◌∷◌, ◌++◌, map}
+use Rattle.std.specs.List.{Contains, filter}
 use Rattle.page_access.specs.Pages.{File}
 use Rattle.page_lists.specs.Lists.{IsPartOf, is_in, minus}
+use Rattle.page_lists.specs.Table.{is_page}
 use Rattle.cell_reader.specs.declared.shapes.Kind.{Kind}
-use Rattle.page_walk.specs.Cells.{Outcome, Read, Unread, chains_of, outcomes_on}
+use Rattle.cell_reader.specs.declared.shapes.Kind.TheVariants.{Table, Index}
+use Rattle.page_walk.specs.Cells.{Row, Outcome, Read, Unread, chains_of, outcomes_on}
+use Rattle.page_walk.specs.Evidence.{AreOnce, Evidence}
+use Rattle.page_walk.specs.Rows.{rows_of}
 use Rattle.page_walk.specs.Turns.{chains_on, turns_on}
 use Rattle.page_walk.specs.Walk.{kind_on, walk}
 
@@ -40,3 +45,30 @@ Rises least (i ∷ is) = (least ≤ i) × Rises (i + 1) is
 -- so do the numbers of a page's cells
 abbrev pub CellsRise : Type 0
 CellsRise = (f : File) (p : ℕ) (unused : List ℕ) → Rises 0 (map number_of (outcomes_on f p unused))
+
+-- whether the cell is one of those before cell i of its page
+abbrev pub is_before : ℕ → Outcome → Bool
+is_before i o = nat_lt (number_of o) i
+
+-- the unused pages that the cells of page p before cell i leave
+abbrev pub left_before : File → ℕ → ℕ → List ℕ → List ℕ
+left_before f p i unused = minus unused (chains_of (filter (is_before i) (outcomes_on f p unused)))
+
+-- The row stands in the file on page p, and its chain is one of pages that the cells before it leave.
+pub record IsReadable (f : File) (p : ℕ) (unused : List ℕ) (row : Row) : Type 0 where
+  pub evidence : Evidence f row
+  pub on_page : row.page ≡ p
+  pub free : IsPartOf row.chain (left_before f p row.cell unused)
+
+-- the rows that are read of a page are exactly those
+abbrev pub ReadableAreRead : Type 0
+ReadableAreRead = (f : File) (p : ℕ) (unused : List ℕ) (row : Row) → is_page f.pages p ≡ true → AreOnce f.pages unused
+    → Contains (rows_of (outcomes_on f p unused)) row ↔ IsReadable f p unused row
+
+-- a row has a rowid on a page of a table, and none on a page of an index
+pub record HasRowidByKind (f : File) (row : Row) : Type 0 where
+  pub table : kind_on f row.page ≡ Some Table → IsTrue (is_some row.rowid)
+  pub index : kind_on f row.page ≡ Some Index → row.rowid ≡ None
+
+abbrev pub RowidsAreByKind : Type 0
+RowidsAreByKind = (f : File) (row : Row) → Evidence f row → HasRowidByKind f row

@@ -1,5 +1,5 @@
 -- The readable cells of a page, and what is noted of the others (docs/FORMAT.md, "Readable cells").
-use Rattle.std.specs.Prelude.{◌≡◌, ℕ, ◌+◌, unwrap_or, Some, List, [], ◌∷◌, ◌++◌, length, slice_get}
+use Rattle.std.specs.Prelude.{◌≡◌, ℕ, ◌+◌, unwrap_or, Some, List, [], ◌∷◌, ◌++◌, length, slice_get, take}
 use Rattle.page_walk.specs.declared.causes.CellCause.{CellCause}
 use Rattle.page_walk.specs.declared.outcomes.TakenCell.{TakenCell}
 use Rattle.page_walk.specs.declared.outcomes.CellOutcome.{CellOutcome}
@@ -34,6 +34,10 @@ abbrev pub notes_with : PageNotes → Outcome → PageNotes
 notes_with notes (Read row) = notes
 notes_with notes (Unread u) =
     record { unread = notes.unread + 1; first = Some (unwrap_or notes.first (u.cell, u.cause)) }
+
+-- `new` is `old` and then the first of `more`, however many
+abbrev pub AddsFront : {X : Type 0} → List X → List X → List X → Type 0
+AddsFront more old new = (n : ℕ) × (new ≡ old ++ take n more)
 
 -- `new` is `old` and then a front of the cells
 pub record GainsFront (cells old new : List TakenCell) : Type 0 where

@@ -1,8 +1,8 @@
 -- What a walk takes of the page numbers that it meets (docs/FORMAT.md, "Trees"; docs/ARCHITECTURE.md, "Order of use").
-use Rattle.std.specs.Prelude.{◌≡◌, ℕ, Bool, ◌&&◌, Option, Some, List, ◌++◌}
+use Rattle.std.specs.Prelude.{ℕ, Bool, ◌==◌, ◌&&◌, if◌then◌else◌, Option, Some, List, [], ◌∷◌}
 use Rattle.std.specs.List.{filter}
 use Rattle.page_lists.specs.Lists.{firsts}
-use Rattle.page_lists.specs.Table.{Table, all_moved, is_page, unused}
+use Rattle.page_lists.specs.Table.{Table, is_page, unused}
 use Rattle.cell_reader.specs.declared.shapes.Kind.{Kind}
 use Rattle.page_walk.specs.Kinds.{kind_at}
 use Rattle.page_walk.specs.Walk.{same_kind}
@@ -15,7 +15,7 @@ is_of_kind kinds n kind q = is_page n q && same_kind (kind_at kinds q) (Some kin
 abbrev pub takes : List (Option Kind) → Kind → Table → List ℕ → List ℕ
 takes kinds kind t qs = firsts (unused t) (filter (is_of_kind kinds t.pages kind) qs)
 
--- the pages have list l, and stand behind those found before
-pub record Took (l : ℕ) (pages : List ℕ) (old new : Table) (before after : List ℕ) : Type 0 where
-  pub found : after ≡ before ++ pages
-  pub table : new ≡ all_moved pages l old
+-- the pages of a list from the first q on
+abbrev pub tail : ℕ → List ℕ → List ℕ
+tail q [] = []
+tail q (p ∷ ps) = if p == q then p ∷ ps else tail q ps

@@ -5,13 +5,13 @@ ghost use Rattle.page_access.specs.Cache.{HasAll, IsCacheOf};
 ghost use Rattle.page_access.specs.Files.{file_of};
 ghost use Rattle.page_access.specs.Outside.{HasCauseOf, KeepsSource};
 ghost use Rattle.page_access.specs.declared.outside.ReadFault.TheVariants as faults;
-ghost use Rattle.page_lists.specs.Table.{Moves, unused};
+ghost use Rattle.page_lists.specs.Table.{Moves, MovesFront, unused};
 ghost use Rattle.cell_reader.specs.Inside.{HasArray};
 ghost use Rattle.cell_reader.specs.Shape.{shape_at};
 ghost use Rattle.page_walk.specs.Bounds.{Adds, Uses};
-ghost use Rattle.page_walk.specs.Cells.{outcome_of, outcomes_in, outcomes_on};
+ghost use Rattle.page_walk.specs.Cells.{chains_of, outcome_of, outcomes_in, outcomes_on};
 ghost use Rattle.page_walk.specs.Evidence.{Evidence};
-ghost use Rattle.page_walk.specs.Rows.{rows_of};
+ghost use Rattle.page_walk.specs.Rows.{AddsFront, rows_of};
 ghost use Rattle.page_walk.specs.Turns.{ReadsEach, after_turns};
 
 use crate::entries::take_cell;
@@ -47,6 +47,13 @@ fn add_cells<S: Source>(
         (λ all. map outcome_of to.new.items ≡ map outcome_of to.old.items
         ++ outcomes_in (file_of all geo.now) bytes.now page shape.now (unused table.old))) }
     ensures used { OnOk result (Uses table.old table.new to.old.items to.new.items) }
+    // at every exit
+    ensures front { IfSome (S.bytes src.old) (λ all. AddsFront
+        (outcomes_in (file_of all geo.now) bytes.now page shape.now (unused table.old))
+        (map outcome_of to.old.items) (map outcome_of to.new.items)) }
+    ensures table_front { IfSome (S.bytes src.old) (λ all. MovesFront
+        (chains_of (outcomes_in (file_of all geo.now) bytes.now page shape.now (unused table.old)))
+        4 table.old table.new) }
     ensures cause { HasCauseOf faults.Source (S.faults src.old) (S.faults src.new) result }
     ensures kept { KeepsSource S.bytes S.attached S.faults S.reads src.old src.new }
     ensures moves { Moves 4 table.old table.new }
@@ -94,6 +101,13 @@ pub fn cells_with<S: Source>(
     ensures table { OnOk result (IfSome (S.bytes src.old)
         (λ all. table.new ≡ after_turns (file_of all geo.now) page table.old)) }
     ensures used { OnOk result (Uses table.old table.new to.old.items to.new.items) }
+    // at every exit
+    ensures front { IfSome (S.bytes src.old) (λ all. AddsFront
+        (outcomes_on (file_of all geo.now) page (unused table.old))
+        (map outcome_of to.old.items) (map outcome_of to.new.items)) }
+    ensures table_front { IfSome (S.bytes src.old) (λ all. MovesFront
+        (chains_of (outcomes_on (file_of all geo.now) page (unused table.old)))
+        4 table.old table.new) }
     ensures cause { HasCauseOf faults.Source (S.faults src.old) (S.faults src.new) result }
     ensures kept { KeepsSource S.bytes S.attached S.faults S.reads src.old src.new }
     ensures moves { Moves 4 table.old table.new }
@@ -116,7 +130,8 @@ pub fn cells_with<S: Source>(
 
 /// Appends what becomes of each cell of the page, in cell order: no item for an accepted cell of an
 /// interior table page, and none for a page without a shape. The overflow pages that the cells take
-/// move to the list of overflow pages. After an error some cells may be there and some pages have moved.
+/// move to the list of overflow pages. After an error the first cells, however many, are there, and the first of
+/// those pages have moved.
 pub fn cells_of<S: Source>(
     alloc: Global,
     src: &mut S,
@@ -140,6 +155,13 @@ pub fn cells_of<S: Source>(
     ensures table { OnOk result (IfSome (S.bytes src.old)
         (λ all. table.new ≡ after_turns (file_of all geo.now) page table.old)) }
     ensures used { OnOk result (Uses table.old table.new to.old.items to.new.items) }
+    // at every exit
+    ensures front { IfSome (S.bytes src.old) (λ all. AddsFront
+        (outcomes_on (file_of all geo.now) page (unused table.old))
+        (map outcome_of to.old.items) (map outcome_of to.new.items)) }
+    ensures table_front { IfSome (S.bytes src.old) (λ all. MovesFront
+        (chains_of (outcomes_on (file_of all geo.now) page (unused table.old)))
+        4 table.old table.new) }
     ensures cause { HasCauseOf faults.Source (S.faults src.old) (S.faults src.new) result }
     ensures kept { KeepsSource S.bytes S.attached S.faults S.reads src.old src.new }
     ensures moves { Moves 4 table.old table.new }

@@ -1,14 +1,14 @@
 //! The payload and the record of an entry.
-ghost use Rattle.std.specs.Prelude.{◌≡◌, ◌≤◌, ◌+◌, ◌*◌, ◌-◌, length, map, IfOk, IfSome, IsErrOf, OnOk, is_ok, option_to_list, if◌then◌else◌};
+ghost use Rattle.std.specs.Prelude.{◌≡◌, ◌≤◌, ◌+◌, ◌*◌, ◌-◌, length, map, IfOk, IfSome, IsErrOf, OnOk, Some, is_ok, option_to_list, if◌then◌else◌};
 ghost use Rattle.page_access.specs.Files.{file_of};
 ghost use Rattle.page_access.specs.Outside.{HasCauseOf, KeepsSource};
 ghost use Rattle.page_access.specs.declared.outside.ReadFault.TheVariants as faults;
-ghost use Rattle.page_lists.specs.Table.{Moves, all_moved, unused};
+ghost use Rattle.page_lists.specs.Table.{Moves, MovesFront, all_moved, unused};
 ghost use Rattle.record_core.specs.Record.{record_of};
 ghost use Rattle.cell_reader.specs.Inside.{HasOverflow, IsInside, has_payload};
 ghost use Rattle.overflow_chain.specs.Turn.{Takes};
 ghost use Rattle.page_walk.specs.Bounds.{IsSmall};
-ghost use Rattle.page_walk.specs.Cells.{chain_of, chains_of, entry_at, missing, outcome_at, outcome_of, read_as};
+ghost use Rattle.page_walk.specs.Cells.{chain_of, chains_of, entry_at, missing, outcome_at, outcome_of, read_as, turn_from};
 ghost use Rattle.page_walk.specs.Turns.{ReadsEach, RestTaken};
 
 use crate::CellCause;
@@ -30,18 +30,21 @@ fn cells_have_payload(shape: &PageShape) -> bool
     }
 }
 
-// Appends the bytes of an entry's payload that are not local, and the pages that its chain takes.
+// Appends the bytes of an entry's payload that are not local, and the pages that its chain, which begins
+// with page `first`, takes.
 fn read_rest<S: Source>(
     alloc: Global,
     src: &mut S,
     geo: &Geometry,
     table: &mut PageTable,
     view: &CellView,
+    first: u32,
     chain: &mut Vec<u32>,
     payload: &mut Vec<u8>,
 ) -> Result<ChainEnd, ReadFault>
     requires same_pages { table.old.pages ≡ geo.now.pages }
     requires lists { 7 ≤ length table.old.lists }
+    requires first { view.now.overflow ≡ Some first }
     requires local { view.now.local_start ≤ view.now.local_end }
     requires overflow { HasOverflow view.now.overflow
         (view.now.local_end - view.now.local_start) view.now.total }
@@ -51,15 +54,16 @@ fn read_rest<S: Source>(
         chain.old.items chain.new.items payload.old.items payload.new.items end)) }
     ensures taken { OnOk result (Takes (missing view.now) table.old table.new
         chain.old.items chain.new.items payload.old.items payload.new.items) }
+    // at every exit
+    ensures front { IfSome (S.bytes src.old) (λ all. MovesFront
+        (turn_from (file_of all geo.now) (missing view.now) view.now.overflow (unused table.old))
+        4 table.old table.new) }
     ensures cause { HasCauseOf faults.Source (S.faults src.old) (S.faults src.new) result }
     ensures kept { KeepsSource S.bytes S.attached S.faults S.reads src.old src.new }
     ensures moves { Moves 4 table.old table.new }
     ensures reads { ReadsEach (S.bytes src.old) geo.now table.old table.new
         (S.reads src.old) (S.reads src.new) (if is_ok result then 0 else 1) }
 {
-    let Some(first) = view.overflow else {
-        return Ok(ChainEnd::Whole);
-    };
     let need = view.total - u64::from(view.local_end - view.local_start);
     read_chain(alloc, src, geo, table, first, need, chain, payload)
 }
@@ -117,16 +121,32 @@ fn take_entry<S: Source>(
     ensures moved { IfOk result (λ o. table.new ≡ all_moved (chain_of (outcome_of o)) 4 table.old) }
     ensures small { IfOk result (λ o. IsSmall geo.now.usable geo.now.pages place.page
         (outcome_of o)) }
+    // at every exit
+    ensures front { IfSome (S.bytes src.old) (λ all. MovesFront
+        (turn_from (file_of all geo.now) (missing view.now) view.now.overflow (unused table.old))
+        4 table.old table.new) }
     ensures cause { HasCauseOf faults.Source (S.faults src.old) (S.faults src.new) result }
     ensures kept { KeepsSource S.bytes S.attached S.faults S.reads src.old src.new }
     ensures moves { Moves 4 table.old table.new }
     ensures reads { ReadsEach (S.bytes src.old) geo.now table.old table.new
         (S.reads src.old) (S.reads src.new) (if is_ok result then 0 else 1) }
 {
-    let mut chain = Vec::new(alloc);
     let local = &page[view.local_start as usize..view.local_end as usize];
+    let Some(first) = view.overflow else {
+        return judge(alloc, place, view.rowid, Vec::new(alloc), local);
+    };
+    let mut chain = Vec::new(alloc);
     let mut payload = Vec::from_slice(alloc, local)?;
-    let end = read_rest(alloc, src, geo, table, view, &mut chain, &mut payload)?;
+    let end = read_rest(
+        alloc,
+        src,
+        geo,
+        table,
+        view,
+        first,
+        &mut chain,
+        &mut payload,
+    )?;
     if end != ChainEnd::Whole {
         return Ok(CellOutcome::Unread {
             cell: place.cell,
@@ -160,6 +180,11 @@ pub fn take_cell<S: Source>(
         (λ o. table.new ≡ all_moved (chains_of (map outcome_of (option_to_list o))) 4 table.old) }
     ensures small { IfOk result
         (λ o. IfSome o (λ x. IsSmall geo.now.usable geo.now.pages place.page (outcome_of x))) }
+    // at every exit
+    ensures front { IfSome (S.bytes src.old) (λ all. MovesFront
+        (chains_of (outcome_at (file_of all geo.now) page.now place.page
+        (has_payload shape.now.kind shape.now.leaf) place.cell cell (unused table.old)))
+        4 table.old table.new) }
     ensures cause { HasCauseOf faults.Source (S.faults src.old) (S.faults src.new) result }
     ensures kept { KeepsSource S.bytes S.attached S.faults S.reads src.old src.new }
     ensures moves { Moves 4 table.old table.new }

@@ -1,5 +1,5 @@
 //! What is true of every walk and of all turns.
-ghost use Rattle.page_walk.specs.Laws.{CellsRise, ChainsAreUnused, TurnsAlwaysGoOn, WalksAreUnused};
+ghost use Rattle.page_walk.specs.Laws.{CellsRise, ChainsAreUnused, ReadableAreRead, RowidsAreByKind, TurnsAlwaysGoOn, WalksAreUnused};
 ghost use Rattle.page_walk.specs.Reach.{ChildrenAreNamed, WalkIsTree};
 
 /// A walk gives the pages that the root reaches through unused pages, each once.
@@ -30,4 +30,15 @@ pub fn chains_are_unused()
 /// The numbers of a page's cells rise.
 pub fn cells_rise()
     ensures { CellsRise }
+{}
+
+/// The readable cells of a page are exactly those with evidence whose chain is part of the unused pages that
+/// the cells before them leave.
+pub fn readable_cells_are_read()
+    ensures { ReadableAreRead }
+{}
+
+/// A readable cell has a rowid on a page of a table, and none on a page of an index.
+pub fn rowids_are_by_kind()
+    ensures { RowidsAreByKind }
 {}

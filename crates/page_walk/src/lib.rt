@@ -19,7 +19,8 @@ mod walks;
 pub use causes::CellCause;
 pub use cells::{cells_of, cells_with};
 pub use laws::{
-    cells_rise, chains_are_unused, children_are_named, turns_go_on, walk_is_tree, walks_are_unused,
+    cells_rise, chains_are_unused, children_are_named, readable_cells_are_read, rowids_are_by_kind,
+    turns_go_on, walk_is_tree, walks_are_unused,
 };
 pub use named::{pointers, pointers_with};
 pub use outcomes::{CellOutcome, Place, TakenCell};

@@ -5,11 +5,11 @@ ghost use Rattle.page_access.specs.Cache.{HasAll, IsCacheOf};
 ghost use Rattle.page_access.specs.Files.{file_of};
 ghost use Rattle.page_access.specs.Outside.{HasCauseOf, KeepsSource};
 ghost use Rattle.page_access.specs.declared.outside.ReadFault.TheVariants as faults;
-ghost use Rattle.page_lists.specs.Table.{Moves, unused};
+ghost use Rattle.page_lists.specs.Table.{Moves, MovesFront, unused};
 ghost use Rattle.page_walk.specs.Bounds.{AddsRows};
-ghost use Rattle.page_walk.specs.Cells.{outcome_of, outcomes_on, row_of};
+ghost use Rattle.page_walk.specs.Cells.{chains_of, outcome_of, outcomes_on, row_of};
 ghost use Rattle.page_walk.specs.Evidence.{Evidence};
-ghost use Rattle.page_walk.specs.Rows.{GainsFront, notes_of, notes_with, rows_of, taken_in};
+ghost use Rattle.page_walk.specs.Rows.{AddsFront, GainsFront, notes_of, notes_with, rows_of, taken_in};
 ghost use Rattle.page_walk.specs.Turns.{ReadsEach, after_turns};
 
 use crate::CellCause;
@@ -73,8 +73,8 @@ pub fn sort_outcomes(
 
 /// Appends the readable cells of the page in cell order, and notes the others. An interior table page
 /// and a page without a shape have no readable cells; those of the former that are not accepted are
-/// noted. The overflow pages that the cells take move to the list of overflow pages. After an error some
-/// cells may be there and some pages have moved.
+/// noted. The overflow pages that the cells take move to the list of overflow pages. After an error the first
+/// readable cells, however many, are there, and the first of those pages have moved.
 pub fn read_cells<S: Source>(
     alloc: Global,
     src: &mut S,
@@ -99,6 +99,13 @@ pub fn read_cells<S: Source>(
         (λ all. n ≡ notes_of (outcomes_on (file_of all geo.now) page (unused table.old)))) }
     ensures table { OnOk result (IfSome (S.bytes src.old)
         (λ all. table.new ≡ after_turns (file_of all geo.now) page table.old)) }
+    // at every exit
+    ensures front { IfSome (S.bytes src.old) (λ all. AddsFront
+        (rows_of (outcomes_on (file_of all geo.now) page (unused table.old)))
+        (map row_of to.old.items) (map row_of to.new.items)) }
+    ensures table_front { IfSome (S.bytes src.old) (λ all. MovesFront
+        (chains_of (outcomes_on (file_of all geo.now) page (unused table.old)))
+        4 table.old table.new) }
     ensures cause { HasCauseOf faults.Source (S.faults src.old) (S.faults src.new) result }
     ensures kept { KeepsSource S.bytes S.attached S.faults S.reads src.old src.new }
     ensures moves { Moves 4 table.old table.new }

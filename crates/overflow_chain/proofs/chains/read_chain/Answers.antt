@@ -1,6 +1,6 @@
 use Rattle.std.proofs.Common.{ℕ, ◌-◌, ◌∙◌, sym, ap, arith}
 use Rattle.page_access.proofs.Keeps.{not_failed}
-use Rattle.overflow_chain.proofs.Reading.{reading_start, reading_partition, reading_pages, reading_lists, reading_page, reading_more, reading_done, reading_chain, reading_broken, paid_err}
+use Rattle.overflow_chain.proofs.Reading.{reading_start, reading_partition, reading_pages, reading_lists, reading_page, reading_more, reading_done, reading_chain, reading_broken, reading_front, reading_front_err, front_none, paid_err}
 use Rattle.overflow_chain.proofs.Taking.{taking_done}
 use Rattle.overflow_chain.proofs.chains.read_chain.Goals as goal
 
@@ -53,3 +53,18 @@ returns-in-Some-clause-taken g c = taking_done _ _ _ _ _ _ _ _ c.loop-missing.in
 
 pub returns-clause-taken : goal.returns-clause-taken
 returns-clause-taken g c = taking_done _ _ _ _ _ _ _ _ c.loop-missing.invariant.taking
+
+pub returns-clause-front : goal.returns-clause-front
+returns-clause-front g c = reading_front c.loop-missing.invariant
+
+pub returns-in-Some-clause-front : goal.returns-in-Some-clause-front
+returns-in-Some-clause-front g c = reading_front c.loop-missing.invariant
+
+pub returns-in_err-take_page-clause-front : goal.returns-in_err-take_page-clause-front
+returns-in_err-take_page-clause-front g c =
+    reading_front_err c.take_page.new.table c.take_page.new.pages.items c.take_page.new.to.items c.loop-missing.invariant c.loop-missing-test.true
+    c.in_default.ensures.none c.in_err-take_page.ensures.err c.in_err-take_page.ensures.err_bytes c.in_err-take_page.ensures.err_pages
+
+pub returns-in_err-page-clause-front : goal.returns-in_err-page-clause-front
+returns-in_err-page-clause-front g c =
+    front_none _ c.args.geo.now c.args.first c.args.need c.args.table.now c.args.pages.now.items c.args.to.now.items

@@ -1,6 +1,7 @@
-use Rattle.std.proofs.Common.{◌∙◌, ap, ℕ, false, replicate}
+use Rattle.std.proofs.Common.{◌∙◌, ap, refl, ℕ, false, replicate}
 use Rattle.page_access.proofs.Keeps.{not_failed}
 use Rattle.page_walk.proofs.Going.{going_start, going_more, going_pages, going_lists, going_moves, going_value}
+use Rattle.page_walk.proofs.Fronts.{going_front, going_table, going_table_more}
 use Rattle.page_walk.proofs.cells.add_cells.Goals as goal
 
 pub loop-i-init : goal.loop-i-init
@@ -28,3 +29,25 @@ loop-i-preserved g c =
 
 pub returns-clause-value : goal.returns-clause-value
 returns-clause-value g c = going_value c.loop-i.invariant c.loop-i-test.false
+
+pub returns-in_err-outcome-clause-front : goal.returns-in_err-outcome-clause-front
+returns-in_err-outcome-clause-front g c = going_front c.loop-i.invariant _ refl
+
+pub returns-in_err-outcome-clause-table_front : goal.returns-in_err-outcome-clause-table_front
+returns-in_err-outcome-clause-table_front g c =
+    going_table_more c.loop-i.invariant c.take_cell.new.table c.screen-cell.result c.loop-i-test.true c.screen-cell.ensures.verdict
+    c.take_cell.ensures.front
+
+pub returns-in_err-push_some-clause-front : goal.returns-in_err-push_some-clause-front
+returns-in_err-push_some-clause-front g c = going_front c.loop-i.invariant _ c.in_err-push_some.ensures.err
+
+pub returns-in_err-push_some-clause-table_front : goal.returns-in_err-push_some-clause-table_front
+returns-in_err-push_some-clause-table_front g c =
+    going_table_more c.loop-i.invariant c.take_cell.new.table c.screen-cell.result c.loop-i-test.true c.screen-cell.ensures.verdict
+    c.take_cell.ensures.front
+
+pub returns-clause-front : goal.returns-clause-front
+returns-clause-front g c = going_front c.loop-i.invariant _ refl
+
+pub returns-clause-table_front : goal.returns-clause-table_front
+returns-clause-table_front g c = going_table c.loop-i.invariant

@@ -1,11 +1,15 @@
 use Rattle.std.proofs.Common.{◌-◌, length, drop, refl, ap, arith, length-drop, length-take}
 use Rattle.std.proofs.lemmas.Result.{IfOk-weaker}
-use Rattle.page_walk.proofs.Small.{entry_small}
+use Rattle.page_access.specs.Files.{file_of}
+use Rattle.page_lists.specs.Table.{unused}
+use Rattle.page_walk.proofs.Going.{always_told}
+use Rattle.page_walk.proofs.Local.{local_small, local_value}
+use Rattle.page_walk.proofs.Small.{entry_small, taken_pages}
 use Rattle.page_walk.proofs.entries.take_entry.Goals as goal
 
 pub returns-clause-small : goal.returns-clause-small
 returns-clause-small g c =
-    IfOk-weaker c.judge.result _ _ (λ o is.
+    IfOk-weaker c.judge-2.result _ _ (λ o is.
     entry_small c.args.geo.now.usable c.args.geo.now.pages c.args.place.page c.args.place.cell
     (c.args.view.now.local_end - c.args.view.now.local_start) c.args.view.now.total
     (c.args.view.now.total - (c.args.view.now.local_end - c.args.view.now.local_start)) c.args.view.now.rowid
@@ -21,4 +25,33 @@ returns-clause-small g c =
       length-drop c.args.view.now.local_start c.args.page.now,
     ))
     c.requires.overflow refl c.requires.most)
+    c.judge-2.ensures.value
+
+pub returns-then-ne-clause-small : goal.returns-then-ne-clause-small
+returns-then-ne-clause-small g c =
+    taken_pages _ c.args.geo.now.pages c.args.table.now c.read_rest.new.table c.new-chain.result.items c.read_rest.new.chain.items
+    c.in_ok-payload.payload.items c.read_rest.new.payload.items c.in_ok-end.ensures.taken c.new-chain.ensures.items c.requires.same_pages
+
+pub returns-in_default-clause-value : goal.returns-in_default-clause-value
+returns-in_default-clause-value g c =
+    IfOk-weaker c.judge.result _ _ (λ o is.
+    always_told _ (g.S.Source.bytes c.args.src.now) (λ all.
+    local_value (file_of all c.args.geo.now) c.args.page.now c.args.place.page c.args.place.cell c.args.view.now (unused c.args.table.now)
+    c.new.result.items _ _ is c.new.ensures.items refl c.in_default.is))
+    c.judge.ensures.value
+
+pub returns-in_default-clause-small : goal.returns-in_default-clause-small
+returns-in_default-clause-small g c =
+    IfOk-weaker c.judge.result _ _ (λ o is.
+    local_small c.args.geo.now.usable c.args.geo.now.pages c.args.place.page c.args.place.cell
+    (c.args.view.now.local_end - c.args.view.now.local_start) c.args.view.now.total c.args.view.now.rowid c.args.view.now.overflow
+    c.new.result.items _ _ is c.new.ensures.items
+    (omega (
+      arith,
+      c.requires.within,
+      c.requires.local,
+      length-take (c.args.view.now.local_end - c.args.view.now.local_start) (drop c.args.view.now.local_start c.args.page.now),
+      length-drop c.args.view.now.local_start c.args.page.now,
+    ))
+    c.requires.overflow c.in_default.is c.requires.most)
     c.judge.ensures.value

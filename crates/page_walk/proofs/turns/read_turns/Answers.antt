@@ -1,4 +1,4 @@
-use Rattle.std.proofs.Common.{◌≡◌, false, ℕ, ◌+◌, ◌*◌, ◌∷◌, [], ◌∙◌, ap, length, map, drop, get_or, subst, arith, length-drop}
+use Rattle.std.proofs.Common.{false, ℕ, ◌+◌, ◌*◌, ◌∷◌, [], ◌∙◌, ap, length, map, drop, get_or, subst, arith, length-drop}
 use Rattle.std.proofs.lemmas.List.{drop_all, drop_more, length-map, length-replicate, map-append}
 use Rattle.page_access.specs.Cache.{HasAll}
 use Rattle.page_access.proofs.Keeps.{not_failed}

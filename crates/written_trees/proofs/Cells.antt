@@ -96,11 +96,11 @@ not_less : (n m : ℕ) → m ≤ n → nat_lt n m ≡ false
 not_less n m le = grind (arith, nat_tests)
 
 -- the payload of a cell behind its numbers
-record Payload (usable : ℕ) (kind : Kind) (leaf : Bool) (c : Laid) (bytes : List ℕ) : Type 0 where
-  long : nat_lt (length bytes) (size_of (length (head_part kind leaf c)) (kept_of usable kind c.body) (length c.body)) ≡ false
-  next : nat_eq (kept_of usable kind c.body) (length c.body) ≡ false → u32_at bytes (length (head_part kind leaf c) + kept_of usable kind c.body) ≡ c.next
+pub record Payload (usable : ℕ) (kind : Kind) (leaf : Bool) (c : Laid) (bytes : List ℕ) : Type 0 where
+  pub long : nat_lt (length bytes) (size_of (length (head_part kind leaf c)) (kept_of usable kind c.body) (length c.body)) ≡ false
+  pub next : nat_eq (kept_of usable kind c.body) (length c.body) ≡ false → u32_at bytes (length (head_part kind leaf c) + kept_of usable kind c.body) ≡ c.next
 
-payload_there : (usable : ℕ) (kind : Kind) (leaf : Bool) (c : Laid) (rest : List ℕ) → 480 ≤ usable → c.next < 256 ^ 4
+pub payload_there : (usable : ℕ) (kind : Kind) (leaf : Bool) (c : Laid) (rest : List ℕ) → 480 ≤ usable → c.next < 256 ^ 4
     → Payload usable kind leaf c (cell_bytes usable kind leaf c ++ rest)
 unfolding cell_bytes
 payload_there usable kind leaf c rest least small =

@@ -3,4 +3,4 @@
 
 mod laws;
 
-pub use laws::a_written_cell_is_read_back;
+pub use laws::{a_written_cell_is_read_back, a_written_page_says_its_cells};

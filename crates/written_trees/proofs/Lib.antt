@@ -1,2 +1,4 @@
 pub mod Cells
 pub mod Pages
+pub mod Numbers
+pub mod Chains

@@ -1,0 +1,100 @@
+-- Page numbers in a row, and the pages that stand at them.
+use Rattle.std.proofs.Common.{◌≡◌, ◌<◌, ◌≤◌, ℕ, zero, suc, ◌+◌, ◌-◌, ◌^◌, Bool, true, false, List, [], ◌∷◌, ◌++◌, length, get_or, nat_eq, nat_le, ◌&&◌, refl, sym, ap, ◌∙◌, subst, arith, length-append}
+use Rattle.std.specs.Prelude.{if◌then◌else◌}
+use Rattle.std.proofs.lemmas.Bool.Decides.{nat_tests}
+use Rattle.page_access.specs.Pages.{File, page_at}
+use Rattle.page_lists.specs.Lists.{count}
+use Rattle.page_lists.specs.Table.{is_page}
+use Rattle.page_lists.proofs.Counts.{count-append}
+use Rattle.written_trees.specs.Trees.{AreNumbers, HoldsPages, numbers}
+
+pub numbers_more : (number : ℕ → ℕ) (k a b : ℕ) → numbers number k (a + b) ≡ numbers number k a ++ numbers number (k + a) b
+numbers_more number k zero b = ap (λ n. numbers number k n) zero_b ∙ ap (λ n. numbers number n b) place
+  where
+    zero_b : 0 + b ≡ b
+    zero_b = omega arith
+
+    place : k ≡ k + 0
+    place = omega arith
+numbers_more number k (suc a) b =
+    let len : suc a + b ≡ suc (a + b) = omega arith in
+    let place : k + 1 + a ≡ k + suc a = omega arith in
+    ap (numbers number k) len ∙ ap (λ (t : List ℕ). number k ∷ t) (numbers_more number (k + 1) a b)
+    ∙ ap (λ n. number k ∷ (numbers number (k + 1) a ++ numbers number n b)) place
+
+-- how often a number stands in two runs, one behind the other
+pub count-numbers : (number : ℕ → ℕ) (q k a b : ℕ) → count q (numbers number k (a + b)) ≡ count q (numbers number k a) + count q (numbers number (k + a) b)
+count-numbers number q k a b = ap (count q) (numbers_more number k a b) ∙ count-append q (numbers number k a) (numbers number (k + a) b)
+
+-- a number that is below all of a run is not in it, and each number of a run stands in it once
+none_below : (number : ℕ → ℕ) → ((j : ℕ) → number j < number (j + 1)) → (q k n : ℕ) → q < number k → count q (numbers number k n) ≡ 0
+none_below number rise q k zero lt = refl
+none_below number rise q k (suc n) lt =
+    let test : nat_eq (number k) q ≡ false = grind (arith, nat_tests) in
+    let more = none_below number rise q (k + 1) n (omega (arith, rise k)) in
+    rw test (omega (arith, more))
+
+run_once : (f : File) (number : ℕ → ℕ) → ((j : ℕ) → number j < number (j + 1)) → (q k n : ℕ) → 1 ≤ number k → ((j : ℕ) → j < k + n → number j ≤ f.pages)
+    → count q (numbers number k n) ≤ (if is_page f.pages q then 1 else 0)
+run_once f number rise q k zero some inside = omega arith
+run_once f number rise q k (suc n) some inside =
+    by (nat_eq (number k) q) refl (run_once f number rise q (k + 1) n (omega (arith, rise k)) (λ j lt. inside j (omega (arith, lt))))
+  where
+    there : (p : ℕ) → nat_eq p q ≡ true → 1 ≤ p → p ≤ f.pages → is_page f.pages q ≡ true
+    there p e one le = let same : p ≡ q = grind (arith, nat_tests) in let one' : 1 ≤ q = omega arith in let le' : q ≤ f.pages = omega arith in grind (arith, nat_tests)
+
+    by : (b : Bool) → nat_eq (number k) q ≡ b → count q (numbers number (k + 1) n) ≤ (if is_page f.pages q then 1 else 0)
+        → (if b then 1 else 0) + count q (numbers number (k + 1) n) ≤ (if is_page f.pages q then 1 else 0)
+    by true e more =
+        let same : number k ≡ q = grind (arith, nat_tests) in
+        let none = none_below number rise q (k + 1) n (omega (arith, rise k, same)) in
+        let page = there (number k) e some (inside k (omega arith)) in
+        rw page (omega (arith, none))
+    by false e more = omega (arith, more)
+
+first_some : (number : ℕ → ℕ) → ((j : ℕ) → number j < number (j + 1)) → 1 ≤ number 0 → (k : ℕ) → 1 ≤ number k
+first_some number rise one zero = one
+first_some number rise one (suc k) =
+    let below = first_some number rise one k in
+    let next : number k < number (k + 1) = rise k in
+    let place : k + 1 ≡ suc k = omega arith in
+    let there : 1 ≤ number (k + 1) = omega arith in
+    subst (λ n. 1 ≤ number n) place there
+
+-- page numbers of the file stand once
+pub numbers_once : (f : File) (number : ℕ → ℕ) (total : ℕ) → AreNumbers f number total → (q k n : ℕ) → k + n ≤ total
+    → count q (numbers number k n) ≤ (if is_page f.pages q then 1 else 0)
+numbers_once f number total a q k n le =
+    run_once f number a.rise q k n (first_some number a.rise a.some k) (λ j lt. a.inside j (omega (arith, lt)))
+
+pub number_is_page : (f : File) (number : ℕ → ℕ) (total : ℕ) → AreNumbers f number total → (k : ℕ) → k < total → is_page f.pages (number k) ≡ true
+number_is_page f number total a k lt =
+    let one = first_some number a.rise a.some k in
+    let le = a.inside k lt in
+    both (number k) f.pages one le
+  where
+    both : (p n : ℕ) → 1 ≤ p → p ≤ n → is_page n p ≡ true
+    both p n one le = grind (arith, nat_tests)
+
+-- ---- pages at their numbers
+
+-- pages from index k on
+abbrev pub Stand : File → (ℕ → ℕ) → ℕ → List (List ℕ) → Type 0
+Stand f number k [] = Unit {0}
+Stand f number k (page ∷ pages) = (page_at f (number k) ≡ page) × Stand f number (k + 1) pages
+
+pub stand_apart : (f : File) (number : ℕ → ℕ) (k : ℕ) (xs ys : List (List ℕ)) → Stand f number k (xs ++ ys) → Stand f number k xs × Stand f number (k + length xs) ys
+stand_apart f number k [] ys s = (tt, subst (λ n. Stand f number n ys) (omega arith) s)
+stand_apart f number k (x ∷ xs) ys s =
+    let r = stand_apart f number (k + 1) xs ys s.1 in
+    ((s.0, r.0), subst (λ n. Stand f number n ys) (omega arith) r.1)
+
+stand_from : (f : File) (number : ℕ → ℕ) (k : ℕ) (pages : List (List ℕ)) → ((i : ℕ) → i < length pages → page_at f (number (k + i)) ≡ get_or pages i []) → Stand f number k pages
+stand_from f number k [] h = tt
+stand_from f number k (page ∷ pages) h =
+    let place : k + 0 ≡ k = omega arith in
+    (subst (λ n. page_at f (number n) ≡ page) place (h 0 (omega arith)),
+    stand_from f number (k + 1) pages (λ i lt. subst (λ n. page_at f (number n) ≡ get_or pages i []) (omega arith) (h (suc i) (omega (arith, lt)))))
+
+pub stand_all : (f : File) (number : ℕ → ℕ) (pages : List (List ℕ)) → HoldsPages f number pages → Stand f number 0 pages
+stand_all f number pages h = stand_from f number 0 pages (λ i lt. subst (λ n. page_at f (number n) ≡ get_or pages i []) (omega arith) (h i lt))

@@ -1,0 +1,67 @@
+-- A tree of entries in a file (docs/FORMAT.md, "Trees").
+use Rattle.std.specs.Prelude.{◌≡◌, ◌≤◌, ◌<◌, ℕ, zero, suc, ◌+◌, ◌*◌, ◌^◌, ℤ, if◌then◌else◌, Option, Some, None, List, [], ◌∷◌, length, slice_index_or}
+use Rattle.page_access.specs.Pages.{File, page_at}
+use Rattle.page_lists.specs.Lists.{count}
+use Rattle.page_lists.specs.Table.{is_page}
+use Rattle.record_core.specs.Shortest.{steps}
+use Rattle.cell_reader.specs.declared.shapes.Kind.{Kind}
+use Rattle.cell_reader.specs.declared.shapes.Kind.TheVariants.{Table, Index}
+use Rattle.tree_forms.specs.Node.{Held, node_of}
+use Rattle.tree_forms.specs.Payload.{HasChain, own_of, payload_of}
+use Rattle.tree_forms.specs.Tree.{InOrder, Tree, entries}
+use Rattle.tree_writer.specs.Entry.{Entry}
+
+-- n page numbers from index k on
+abbrev pub numbers : (ℕ → ℕ) → ℕ → ℕ → List ℕ
+numbers number k zero = []
+numbers number k (suc n) = number k ∷ numbers number (k + 1) n
+
+-- the first `total` page numbers rise, are pages of the file, and fit four bytes, as the next one does
+pub record AreNumbers (f : File) (number : ℕ → ℕ) (total : ℕ) : Type 0 where
+  pub rise : (k : ℕ) → number k < number (k + 1)
+  pub some : 1 ≤ number 0
+  pub inside : (k : ℕ) → k < total → number k ≤ f.pages
+  pub small : (k : ℕ) → k ≤ total → number k < 256 ^ 4
+
+-- the file holds these pages at their numbers
+abbrev pub HoldsPages : File → (ℕ → ℕ) → List (List ℕ) → Type 0
+HoldsPages f number pages = (k : ℕ) → k < length pages → page_at f (number k) ≡ slice_index_or pages k []
+
+-- the rowid of an entry: 64 bits in a table, none in an index
+abbrev pub HasRowid : Kind → Option ℤ → Type 0
+HasRowid Table (Some z) = steps z < 2 ^ 63
+HasRowid Table None = ⊥
+HasRowid Index (Some z) = ⊥
+HasRowid Index None = Unit {0}
+
+-- an entry of a tree in a file of at most `limit` bytes
+pub record IsEntry (limit : ℕ) (kind : Kind) (e : Entry) : Type 0 where
+  pub rowid : HasRowid kind e.rowid
+  pub some : 1 ≤ length e.bytes
+  pub most : length e.bytes ≤ limit
+  pub large : length e.bytes < 2 ^ 64
+
+-- a cell of the file holds an entry: its rowid, and its payload with all overflow pages
+pub record Shows (f : File) (h : Held) (e : Entry) : Type 0 where
+  pub rowid : h.rowid ≡ e.rowid
+  pub total : h.total ≡ length e.bytes
+  pub payload : payload_of f h ≡ e.bytes
+  pub chain : HasChain f h
+
+-- cells hold entries, one by one
+abbrev pub AllShow : File → List Held → List Entry → Type 0
+AllShow f [] [] = Unit {0}
+AllShow f [] (e ∷ es) = ⊥
+AllShow f (h ∷ hs) [] = ⊥
+AllShow f (h ∷ hs) (e ∷ es) = Shows f h e × AllShow f hs es
+
+-- page `root` of a file is the root of a well-formed tree that holds exactly these entries, in order; it
+-- has these pages and no others, each a page of the file, and each once
+pub record IsTreeOf (f : File) (kind : Kind) (root : ℕ) (es : List Entry) (pages : List ℕ) : Type 0 where
+  pub items : List Held
+  pub used : List ℕ
+  pub tree : Tree (node_of f) (own_of f) kind root items used
+  pub order : kind ≡ Table → InOrder None items
+  pub holds : AllShow f (entries items) es
+  pub same : (q : ℕ) → count q used ≡ count q pages
+  pub once : (q : ℕ) → count q used ≤ (if is_page f.pages q then 1 else 0)

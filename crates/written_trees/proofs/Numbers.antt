@@ -65,11 +65,11 @@ first_some number rise one (suc k) =
 pub numbers_once : (f : File) (number : ℕ → ℕ) (total : ℕ) → AreNumbers f number total → (q k n : ℕ) → k + n ≤ total
     → count q (numbers number k n) ≤ (if is_page f.pages q then 1 else 0)
 numbers_once f number total a q k n le =
-    run_once f number a.rise q k n (first_some number a.rise a.some k) (λ j lt. a.inside j (omega (arith, lt)))
+    run_once f number a.rise q k n (first_some number a.rise (omega (arith, a.some)) k) (λ j lt. a.inside j (omega (arith, lt)))
 
 pub number_is_page : (f : File) (number : ℕ → ℕ) (total : ℕ) → AreNumbers f number total → (k : ℕ) → k < total → is_page f.pages (number k) ≡ true
 number_is_page f number total a k lt =
-    let one = first_some number a.rise a.some k in
+    let one = first_some number a.rise (omega (arith, a.some)) k in
     let le = a.inside k lt in
     both (number k) f.pages one le
   where

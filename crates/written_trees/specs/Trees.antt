@@ -16,10 +16,11 @@ abbrev pub numbers : (ℕ → ℕ) → ℕ → ℕ → List ℕ
 numbers number k zero = []
 numbers number k (suc n) = number k ∷ numbers number (k + 1) n
 
--- the first `total` page numbers rise, are pages of the file, and fit four bytes, as the next one does
+-- page numbers behind page 1 that rise: the first `total` are pages of the file, and they and the next one
+-- fit four bytes
 pub record AreNumbers (f : File) (number : ℕ → ℕ) (total : ℕ) : Type 0 where
   pub rise : (k : ℕ) → number k < number (k + 1)
-  pub some : 1 ≤ number 0
+  pub some : 2 ≤ number 0
   pub inside : (k : ℕ) → k < total → number k ≤ f.pages
   pub small : (k : ℕ) → k ≤ total → number k < 256 ^ 4
 

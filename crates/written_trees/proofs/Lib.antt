@@ -4,3 +4,4 @@ pub mod Numbers
 pub mod Chains
 pub mod Sheets
 pub mod Forests
+pub mod Levels

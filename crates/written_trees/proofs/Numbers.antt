@@ -52,24 +52,24 @@ run_once f number rise q k (suc n) some inside =
         rw page (omega (arith, none))
     by false e more = omega (arith, more)
 
-first_some : (number : ℕ → ℕ) → ((j : ℕ) → number j < number (j + 1)) → 1 ≤ number 0 → (k : ℕ) → 1 ≤ number k
-first_some number rise one zero = one
-first_some number rise one (suc k) =
-    let below = first_some number rise one k in
+pub numbers_least : (number : ℕ → ℕ) → ((j : ℕ) → number j < number (j + 1)) → (m : ℕ) → m ≤ number 0 → (k : ℕ) → m ≤ number k
+numbers_least number rise m least zero = least
+numbers_least number rise m least (suc k) =
+    let below = numbers_least number rise m least k in
     let next : number k < number (k + 1) = rise k in
     let place : k + 1 ≡ suc k = omega arith in
-    let there : 1 ≤ number (k + 1) = omega arith in
-    subst (λ n. 1 ≤ number n) place there
+    let there : m ≤ number (k + 1) = omega arith in
+    subst (λ n. m ≤ number n) place there
 
 -- page numbers of the file stand once
 pub numbers_once : (f : File) (number : ℕ → ℕ) (total : ℕ) → AreNumbers f number total → (q k n : ℕ) → k + n ≤ total
     → count q (numbers number k n) ≤ (if is_page f.pages q then 1 else 0)
 numbers_once f number total a q k n le =
-    run_once f number a.rise q k n (first_some number a.rise (omega (arith, a.some)) k) (λ j lt. a.inside j (omega (arith, lt)))
+    run_once f number a.rise q k n (numbers_least number a.rise 1 (omega (arith, a.some)) k) (λ j lt. a.inside j (omega (arith, lt)))
 
 pub number_is_page : (f : File) (number : ℕ → ℕ) (total : ℕ) → AreNumbers f number total → (k : ℕ) → k < total → is_page f.pages (number k) ≡ true
 number_is_page f number total a k lt =
-    let one = first_some number a.rise (omega (arith, a.some)) k in
+    let one = numbers_least number a.rise 1 (omega (arith, a.some)) k in
     let le = a.inside k lt in
     both (number k) f.pages one le
   where

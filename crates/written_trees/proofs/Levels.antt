@@ -239,7 +239,7 @@ no_cells : (xs : List Item) → length xs ≡ 0 → xs ≡ []
 no_cells [] e = refl
 no_cells (x ∷ xs) e = absurd (omega (arith, e))
 
-pages-append : (usable : ℕ) (kind : Kind) (ss ts : List Sheet) → pages_in usable kind (ss ++ ts) ≡ pages_in usable kind ss + pages_in usable kind ts
+pub pages-append : (usable : ℕ) (kind : Kind) (ss ts : List Sheet) → pages_in usable kind (ss ++ ts) ≡ pages_in usable kind ss + pages_in usable kind ts
 pages-append usable kind [] ts = omega arith
 pages-append usable kind (s ∷ ss) ts =
     omega (

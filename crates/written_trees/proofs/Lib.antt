@@ -5,3 +5,5 @@ pub mod Chains
 pub mod Sheets
 pub mod Forests
 pub mod Levels
+pub mod Leaves
+pub mod Whole

@@ -27,12 +27,21 @@ pub count-numbers : (number : ℕ → ℕ) (q k a b : ℕ) → count q (numbers 
 count-numbers number q k a b = ap (count q) (numbers_more number k a b) ∙ count-append q (numbers number k a) (numbers number (k + a) b)
 
 -- a number that is below all of a run is not in it, and each number of a run stands in it once
-none_below : (number : ℕ → ℕ) → ((j : ℕ) → number j < number (j + 1)) → (q k n : ℕ) → q < number k → count q (numbers number k n) ≡ 0
+pub none_below : (number : ℕ → ℕ) → ((j : ℕ) → number j < number (j + 1)) → (q k n : ℕ) → q < number k → count q (numbers number k n) ≡ 0
 none_below number rise q k zero lt = refl
 none_below number rise q k (suc n) lt =
     let test : nat_eq (number k) q ≡ false = grind (arith, nat_tests) in
     let more = none_below number rise q (k + 1) n (omega (arith, rise k)) in
     rw test (omega (arith, more))
+
+pub same_number : (p q : ℕ) → nat_eq p q ≡ true → p ≡ q
+same_number p q e = grind (arith, nat_tests)
+
+pub page_there : (n p : ℕ) → 1 ≤ p → p ≤ n → is_page n p ≡ true
+page_there n p one le = grind (arith, nat_tests)
+
+pub page_same : (n p q : ℕ) → nat_eq p q ≡ true → 1 ≤ p → p ≤ n → is_page n q ≡ true
+page_same n p q e one le = subst (λ r. is_page n r ≡ true) (same_number p q e) (page_there n p one le)
 
 run_once : (f : File) (number : ℕ → ℕ) → ((j : ℕ) → number j < number (j + 1)) → (q k n : ℕ) → 1 ≤ number k → ((j : ℕ) → j < k + n → number j ≤ f.pages)
     → count q (numbers number k n) ≤ (if is_page f.pages q then 1 else 0)
@@ -40,15 +49,12 @@ run_once f number rise q k zero some inside = omega arith
 run_once f number rise q k (suc n) some inside =
     by (nat_eq (number k) q) refl (run_once f number rise q (k + 1) n (omega (arith, rise k)) (λ j lt. inside j (omega (arith, lt))))
   where
-    there : (p : ℕ) → nat_eq p q ≡ true → 1 ≤ p → p ≤ f.pages → is_page f.pages q ≡ true
-    there p e one le = let same : p ≡ q = grind (arith, nat_tests) in let one' : 1 ≤ q = omega arith in let le' : q ≤ f.pages = omega arith in grind (arith, nat_tests)
-
     by : (b : Bool) → nat_eq (number k) q ≡ b → count q (numbers number (k + 1) n) ≤ (if is_page f.pages q then 1 else 0)
         → (if b then 1 else 0) + count q (numbers number (k + 1) n) ≤ (if is_page f.pages q then 1 else 0)
     by true e more =
-        let same : number k ≡ q = grind (arith, nat_tests) in
+        let same = same_number (number k) q e in
         let none = none_below number rise q (k + 1) n (omega (arith, rise k, same)) in
-        let page = there (number k) e some (inside k (omega arith)) in
+        let page = page_same f.pages (number k) q e some (inside k (omega arith)) in
         rw page (omega (arith, none))
     by false e more = omega (arith, more)
 
@@ -70,11 +76,7 @@ numbers_once f number total a q k n le =
 pub number_is_page : (f : File) (number : ℕ → ℕ) (total : ℕ) → AreNumbers f number total → (k : ℕ) → k < total → is_page f.pages (number k) ≡ true
 number_is_page f number total a k lt =
     let one = numbers_least number a.rise 1 (omega (arith, a.some)) k in
-    let le = a.inside k lt in
-    both (number k) f.pages one le
-  where
-    both : (p n : ℕ) → 1 ≤ p → p ≤ n → is_page n p ≡ true
-    both p n one le = grind (arith, nat_tests)
+    page_there f.pages (number k) one (a.inside k lt)
 
 -- ---- pages at their numbers
 

@@ -1,12 +1,18 @@
 -- Written cells, pages and trees are read back (docs/FORMAT.md, "Layout of a written file").
-use Rattle.std.specs.Prelude.{◌≡◌, ◌≤◌, ℕ, ◌*◌, Bool, true, Some, Ok, List, ◌++◌, length}
+use Rattle.std.specs.Prelude.{◌≡◌, ◌≤◌, ℕ, ◌-◌, ◌*◌, Bool, true, Some, Ok, List, ◌∷◌, ◌++◌, length}
 use Rattle.page_access.specs.Pages.{File, page_at}
 use Rattle.page_lists.specs.Table.{is_page}
 use Rattle.cell_reader.specs.declared.shapes.Kind.{Kind}
+use Rattle.cell_reader.specs.declared.shapes.Kind.TheVariants.{Table}
 use Rattle.cell_reader.specs.Cell.{cell_parts}
 use Rattle.cell_reader.specs.Shape.{head_of}
 use Rattle.tree_forms.specs.Node.{node_of}
 use Rattle.tree_writer.specs.Cells.{Laid, cell_bytes}
+use Rattle.tree_writer.specs.Entry.{Entry}
+use Rattle.tree_writer.specs.Layout.{schema_pages, tree_pages}
+use Rattle.tree_writer.specs.Levels.{tree_line}
+use Rattle.tree_writer.specs.Trees.{schema_count, tree_count}
+use Rattle.written_trees.specs.Trees.{CanHold, HoldsPages, IsTreeOf, first_then, numbers}
 use Rattle.written_trees.specs.Written.{IsPage, IsWritten, laid_node, laid_page, parts_in}
 
 -- a written cell is read back, whatever follows it
@@ -21,3 +27,15 @@ PagesSayTheirCells = (f : File) (p : ℕ) (front : List ℕ) (kind : Kind) (leaf
     → IsPage (head_of p) f.usable (f.pages * f.usable) kind leaf cells right
     → page_at f p ≡ laid_page front f.usable kind leaf cells right
     → node_of f p ≡ Some (laid_node f.usable kind leaf cells right)
+
+-- the pages of a table's or an index's tree, where a file holds them, are a well-formed tree of its entries
+abbrev pub PagesAreTree : Type 0
+PagesAreTree = (f : File) (kind : Kind) (number : ℕ → ℕ) (es : List Entry) → CanHold f kind number (tree_count f.usable kind es) es
+    → HoldsPages f number (tree_pages f.usable kind number es)
+    → IsTreeOf f kind (number (tree_line f.usable kind 0 es).right) es (numbers number 0 (tree_count f.usable kind es))
+
+-- so are the pages of the schema's tree, whose root is page 1
+abbrev pub SchemaIsTree : Type 0
+SchemaIsTree = (f : File) (front : List ℕ) (number : ℕ → ℕ) (es : List Entry) → length front ≡ 100 → 1 ≤ f.pages
+    → CanHold f Table number (schema_count f.usable es - 1) es → HoldsPages f (first_then number) (schema_pages front f.usable number es)
+    → IsTreeOf f Table 1 es (1 ∷ numbers number 0 (schema_count f.usable es - 1))

@@ -1,5 +1,6 @@
 -- A tree of entries in a file (docs/FORMAT.md, "Trees").
 use Rattle.std.specs.Prelude.{◌≡◌, ◌≤◌, ◌<◌, ℕ, zero, suc, ◌+◌, ◌*◌, ◌^◌, ℤ, if◌then◌else◌, Option, Some, None, List, [], ◌∷◌, length, slice_index_or}
+use Rattle.std.specs.List.{AllByRecursion}
 use Rattle.page_access.specs.Pages.{File, page_at}
 use Rattle.page_lists.specs.Lists.{count}
 use Rattle.page_lists.specs.Table.{is_page}
@@ -9,7 +10,7 @@ use Rattle.cell_reader.specs.declared.shapes.Kind.TheVariants.{Table, Index}
 use Rattle.tree_forms.specs.Node.{Held, node_of}
 use Rattle.tree_forms.specs.Payload.{HasChain, own_of, payload_of}
 use Rattle.tree_forms.specs.Tree.{InOrder, Tree, entries}
-use Rattle.tree_writer.specs.Entry.{Entry}
+use Rattle.tree_writer.specs.Entry.{Entry, RowidsRise}
 
 -- n page numbers from index k on
 abbrev pub numbers : (ℕ → ℕ) → ℕ → ℕ → List ℕ
@@ -66,3 +67,16 @@ pub record IsTreeOf (f : File) (kind : Kind) (root : ℕ) (es : List Entry) (pag
   pub holds : AllShow f (entries items) es
   pub same : (q : ℕ) → count q used ≡ count q pages
   pub once : (q : ℕ) → count q used ≤ (if is_page f.pages q then 1 else 0)
+
+-- the entries of a tree, and page numbers of a file for its pages
+pub record CanHold (f : File) (kind : Kind) (number : ℕ → ℕ) (total : ℕ) (es : List Entry) : Type 0 where
+  pub least : 480 ≤ f.usable
+  pub most : f.usable ≤ 65536
+  pub numbers_are : AreNumbers f number total
+  pub each : AllByRecursion (IsEntry (f.pages * f.usable) kind) es
+  pub rise : kind ≡ Table → RowidsRise None es
+
+-- page 1, and then other pages
+abbrev pub first_then : (ℕ → ℕ) → ℕ → ℕ
+first_then number zero = 1
+first_then number (suc k) = number k

@@ -1,6 +1,6 @@
 //! What holds of every written tree.
 
-ghost use Rattle.written_trees.specs.Laws.{CellsReadBack, PagesSayTheirCells};
+ghost use Rattle.written_trees.specs.Laws.{CellsReadBack, PagesAreTree, PagesSayTheirCells, SchemaIsTree};
 
 /// A written cell is read back, whatever follows it: its numbers, its local payload and its first
 /// overflow page.
@@ -12,4 +12,16 @@ pub fn a_written_cell_is_read_back()
 /// behind the 100 bytes of the file's header.
 pub fn a_written_page_says_its_cells()
     ensures { PagesSayTheirCells }
+{}
+
+/// The pages of the tree of a table or of an index, where a file holds them at rising numbers, are a
+/// well-formed tree: all leaves have one depth, rowids rise and keys bound them, the cells hold exactly
+/// the entries in order, each with its overflow pages, and each page stands in the tree once.
+pub fn the_pages_of_a_plan_are_a_tree()
+    ensures { PagesAreTree }
+{}
+
+/// The same of the schema's tree, whose root is page 1.
+pub fn the_pages_of_a_schema_are_a_tree()
+    ensures { SchemaIsTree }
 {}

@@ -3,4 +3,7 @@
 
 mod laws;
 
-pub use laws::{a_written_cell_is_read_back, a_written_page_says_its_cells};
+pub use laws::{
+    a_written_cell_is_read_back, a_written_page_says_its_cells, the_pages_of_a_plan_are_a_tree,
+    the_pages_of_a_schema_are_a_tree,
+};

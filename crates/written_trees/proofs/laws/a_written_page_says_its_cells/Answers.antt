@@ -1,5 +1,4 @@
 use Rattle.written_trees.proofs.Pages.{page_says}
-use Rattle.written_trees.proofs.Levels.{reach_top}
 use Rattle.written_trees.proofs.laws.a_written_page_says_its_cells.Goals as goal
 
 pub returns : goal.returns

@@ -1,6 +1,6 @@
 -- A written cell is read back.
-use Rattle.std.proofs.Common.{◌≡◌, ◌<◌, ◌≤◌, ℕ, zero, suc, ◌+◌, ◌-◌, ◌*◌, ◌^◌, Bool, true, false, ◌||◌, List, [], ◌∷◌, ◌++◌, length, take, drop, nat_eq, nat_lt, nat_le, refl, sym, ap, ◌∙◌, subst, arith, append_assoc, append-nil, length-append, length-take, length-drop, drop_at, drop-drop}
-use Rattle.std.specs.Prelude.{if◌then◌else◌, Option, Some, None, Result, Ok, Err}
+use Rattle.std.proofs.Common.{◌≡◌, ◌<◌, ◌≤◌, ℕ, ◌+◌, ◌^◌, Bool, true, false, ◌||◌, List, [], ◌++◌, length, take, drop, nat_eq, nat_lt, refl, sym, ap, ◌∙◌, arith, append_assoc, length-append, length-take}
+use Rattle.std.specs.Prelude.{if◌then◌else◌, Option, Some, None, Ok, Err}
 use Rattle.std.proofs.Math.Seq.{drop-append_seam, drop-append-add}
 use Rattle.std.proofs.lemmas.Bool.Decides.{nat_tests}
 use Rattle.byteorder.specs.Endian.{big_bytes, big_number}
@@ -13,12 +13,11 @@ use Rattle.cell_reader.specs.declared.shapes.Kind.{Kind}
 use Rattle.cell_reader.specs.declared.shapes.Kind.TheVariants.{Table, Index}
 use Rattle.cell_reader.specs.declared.parts.Numbers.{Numbers}
 use Rattle.cell_reader.specs.declared.parts.Parts.{Parts}
-use Rattle.cell_reader.specs.declared.cells.CellFault.{CellFault}
-use Rattle.cell_reader.specs.declared.cells.CellFault.TheVariants.{Cut, Length}
-use Rattle.cell_reader.specs.Cell.{and_varint, cell_parts, local_len, numbers_behind, numbers_of, parts_from, parts_with, size_of, with_payload, without_payload}
+use Rattle.cell_reader.specs.declared.cells.CellFault.TheVariants.{Cut}
+use Rattle.cell_reader.specs.Cell.{cell_parts, local_len, numbers_behind, numbers_of, parts_from, parts_with, size_of, with_payload, without_payload}
 use Rattle.cell_reader.specs.Inside.{has_payload}
 use Rattle.cell_reader.specs.Shape.{u32_at}
-use Rattle.tree_writer.specs.Cells.{Laid, cell_bytes, child_part, head_part, kept_of, link, number_part, payload_part}
+use Rattle.tree_writer.specs.Cells.{Laid, cell_bytes, head_part, kept_of, link, number_part, payload_part}
 use Rattle.tree_writer.proofs.Lens.{local_le, local_none}
 use Rattle.written_trees.specs.Laws.{CellsReadBack}
 use Rattle.written_trees.specs.Written.{IsWritten, parts_in, rowid_in}

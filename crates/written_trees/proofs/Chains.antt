@@ -1,18 +1,15 @@
 -- The overflow pages of a written entry are the chain of its cell, and hold its payload.
-use Rattle.std.proofs.Common.{◌≡◌, ◌<◌, ◌≤◌, ◌⊎◌, inl, inr, ℕ, zero, suc, ◌+◌, ◌-◌, ◌*◌, ◌^◌, Bool, true, false, List, [], ◌∷◌, ◌++◌, length, take, drop, nat_eq, nat_le, refl, sym, ap, ◌∙◌, subst, arith, append_assoc, append-nil, length-append, length-take, length-drop}
-use Rattle.std.specs.Prelude.{if◌then◌else◌, Option, Some, None, replicate, slice_range}
-use Rattle.std.specs.List.{flat_map}
+use Rattle.std.proofs.Common.{◌≡◌, ◌<◌, ◌≤◌, ℕ, zero, suc, ◌+◌, ◌-◌, ◌^◌, Bool, true, false, List, [], ◌∷◌, ◌++◌, length, take, drop, nat_eq, nat_le, refl, sym, ap, ◌∙◌, subst, arith, append_assoc, append-nil, length-append, length-take, length-drop}
+use Rattle.std.specs.Prelude.{if◌then◌else◌, Some, replicate}
 use Rattle.std.proofs.Math.Seq.{take-append-add}
 use Rattle.std.proofs.lemmas.Bool.Decides.{nat_tests}
 use Rattle.std.proofs.lemmas.List.{drop_at, length-replicate, take_all, take_at, take-append-drop}
 use Rattle.byteorder.specs.Endian.{big_bytes, big_number}
 use Rattle.byteorder.specs.Numbers.{big_number-reads_back, length-bytes_high_first}
 use Rattle.page_access.specs.Pages.{File, page_at}
-use Rattle.page_lists.specs.Lists.{count}
-use Rattle.page_lists.specs.Table.{is_page}
 use Rattle.overflow_chain.specs.Chain.{IsChain, Linked, chain_len, content_of, contents, next_page}
 use Rattle.overflow_chain.specs.Laws.{reached}
-use Rattle.overflow_chain.proofs.Turns.{chain_len-step, chain_len-zero}
+use Rattle.overflow_chain.proofs.Turns.{chain_len-step}
 use Rattle.tree_forms.specs.Payload.{ChainFrom, chain_from, follow}
 use Rattle.tree_writer.specs.Cells.{over_page, over_pages}
 use Rattle.written_trees.specs.Trees.{AreNumbers, numbers}
@@ -37,9 +34,10 @@ named f number total a usable k zero bytes le s = tt
 named f number total a usable k (suc zero) bytes le s = names f (number k) usable number k true bytes (omega arith) s.0
 named f number total a usable k (suc (suc n)) bytes le s =
     let more : nat_eq (suc n) 0 ≡ false = grind (arith, nat_tests) in
-    let first : page_at f (number k) ≡ over_page usable number k false bytes = subst (λ b. page_at f (number k) ≡ over_page usable number k b bytes) more s.0 in
-    (names f (number k) usable number k false bytes (a.small (k + 1) (omega (arith, le))) first,
-    named f number total a usable (k + 1) (suc n) (drop (usable - 4) bytes) (omega (arith, le)) s.1)
+    let first : page_at f (number k) ≡ over_page usable number k false bytes = subst (λ b. page_at f (number k) ≡ over_page usable number k b bytes) more s.0 in (
+      names f (number k) usable number k false bytes (a.small (k + 1) (omega (arith, le))) first,
+      named f number total a usable (k + 1) (suc n) (drop (usable - 4) bytes) (omega (arith, le)) s.1,
+    )
 
 follows : (next number : ℕ → ℕ) (k n : ℕ) → Named next number k n → follow next n (number k) ≡ numbers number k n
 follows next number k zero w = refl

@@ -1,6 +1,5 @@
 -- Pages over rows of trees: each level of a written tree makes trees of those below it.
-use Rattle.std.proofs.Common.{◌≡◌, ◌≢◌, ◌<◌, ◌≤◌, ℕ, zero, suc, ◌+◌, ◌-◌, ◌*◌, ◌^◌, Bool, true, false, List, [], ◌∷◌, ◌++◌, length, map, sum_by, refl, sym, ap, ◌∙◌, subst, arith, append_assoc, append-nil, length-append}
-use Rattle.std.specs.Prelude.{Option, Some, None}
+use Rattle.std.proofs.Common.{◌≡◌, ◌≢◌, ℕ, suc, ◌+◌, Bool, true, false, List, [], ◌∷◌, ◌++◌, map, refl, sym, ap, ◌∙◌, subst, arith, append_assoc}
 use Rattle.std.specs.List.{AllByRecursion}
 use Rattle.std.proofs.lemmas.List.{map-append}
 use Rattle.std.proofs.lemmas.List.Sums.{sum_by-cons}
@@ -8,13 +7,13 @@ use Rattle.page_access.specs.Pages.{File}
 use Rattle.page_lists.specs.Lists.{count}
 use Rattle.page_lists.proofs.Counts.{count-append}
 use Rattle.cell_reader.specs.declared.shapes.Kind.{Kind}
-use Rattle.tree_forms.specs.Node.{Held, Node, cells_in, child_of, node_of, number_in, right_in}
+use Rattle.tree_forms.specs.Node.{Held, cells_in, child_of, node_of, number_in, right_in}
 use Rattle.tree_forms.specs.Payload.{own_of, payload_of}
-use Rattle.tree_forms.specs.Tree.{Holds, IsTree, Row, bare, items_of, pages_of, row_items, row_pages}
+use Rattle.tree_forms.specs.Tree.{IsTree, Row, bare, items_of, pages_of, row_items, row_pages}
 use Rattle.tree_writer.specs.Cells.{overs, width_of}
 use Rattle.tree_writer.specs.Entry.{Entry, Item}
 use Rattle.tree_writer.specs.Groups.{flat_from}
-use Rattle.tree_writer.specs.Levels.{Line, Sheet, line_from, pages_in, sheets_from}
+use Rattle.tree_writer.specs.Levels.{Sheet, line_from, pages_in, sheets_from}
 use Rattle.written_trees.specs.Trees.{AllShow, Shows, numbers}
 use Rattle.written_trees.proofs.Numbers.{count-numbers}
 use Rattle.written_trees.proofs.Sheets.{CellsShow, SheetSays}

@@ -1,5 +1,5 @@
 -- The leaves of a written tree, and the line over them.
-use Rattle.std.proofs.Common.{◌≡◌, ◌≢◌, ◌<◌, ◌≤◌, ℕ, zero, suc, ◌+◌, ◌-◌, ◌*◌, ◌^◌, ℤ, ◌≤ℤ◌, ◌<ℤ◌, Bool, true, false, List, [], ◌∷◌, ◌++◌, length, map, nat_le, nat_eq, sum_by, refl, sym, ap, ◌∙◌, subst, arith, append_assoc, append-nil, length-append}
+use Rattle.std.proofs.Common.{◌≡◌, ◌≢◌, ◌≤◌, ℕ, ◌+◌, ◌-◌, ◌*◌, ℤ, Bool, true, false, List, [], ◌∷◌, ◌++◌, length, map, nat_le, nat_eq, refl, sym, ap, ◌∙◌, subst, arith, append-nil, length-append}
 use Rattle.std.specs.Prelude.{if◌then◌else◌, Option, Some, None}
 use Rattle.std.specs.Int.Signed.{≤ℤ_refl}
 use Rattle.std.specs.List.{AllByRecursion}
@@ -12,17 +12,17 @@ use Rattle.cell_reader.specs.declared.shapes.Kind.TheVariants.{Table, Index}
 use Rattle.cell_reader.specs.Inside.{has_payload}
 use Rattle.tree_forms.specs.Node.{Held}
 use Rattle.tree_forms.specs.Tree.{Follows, InOrder, entries}
-use Rattle.tree_writer.specs.Cells.{need_of, overs, width_of}
+use Rattle.tree_writer.specs.Cells.{need_of}
 use Rattle.tree_writer.specs.Entry.{Entry, Item, RowidsRise, key_item, key_of, leaf_item, no_item}
-use Rattle.tree_writer.specs.Groups.{Cut, cons_cut, cuts, end_of, flat_from, joined_from, last_of, leaves}
+use Rattle.tree_writer.specs.Groups.{cons_cut, flat_from, joined_from, last_of, leaves}
 use Rattle.tree_writer.specs.Layout.{pages_from}
-use Rattle.tree_writer.specs.Levels.{Line, Sheet, leaf_cut, leaf_line, line_from, needs, pages_in, room_in, sheets_from, sheets_of}
-use Rattle.tree_writer.proofs.Cuts.{CutFits, Keyed, cuts_fit, cuts_flat, leaves_fit, leaves_joined, leaves_keyed}
+use Rattle.tree_writer.specs.Levels.{leaf_cut, leaf_line, needs, pages_in, room_in, sheets_of}
+use Rattle.tree_writer.proofs.Cuts.{Keyed, cuts_fit, cuts_flat, leaves_fit, leaves_joined, leaves_keyed}
 use Rattle.tree_writer.proofs.Needs.{index_half, leaf_fits}
 use Rattle.tree_writer.proofs.Rising.{line_pages}
-use Rattle.written_trees.specs.Trees.{AllShow, AreNumbers, IsEntry, Shows, numbers}
-use Rattle.written_trees.proofs.Forests.{HaveCells, entry_of, leaves_over}
-use Rattle.written_trees.proofs.Levels.{GroupIs, GroupsAre, Reached, cuts_some, level_said, line_below, line_good}
+use Rattle.written_trees.specs.Trees.{AllShow, AreNumbers, IsEntry, numbers}
+use Rattle.written_trees.proofs.Forests.{entry_of, leaves_over}
+use Rattle.written_trees.proofs.Levels.{GroupIs, GroupsAre, Reached, both_all, cuts_some, each_is, level_said, line_all, line_below}
 use Rattle.written_trees.proofs.Numbers.{Stand}
 use Rattle.written_trees.proofs.Sheets.{IsCell, ItemIs}
 
@@ -63,11 +63,6 @@ group_is f kind total items right ok none fits = record { ok = all items ok; chi
     children : (xs : List Item) → AllByRecursion (LeafItem (f.pages * f.usable) kind) xs → AllByRecursion (λ (x : Item). x.child ≤ total) xs
     children [] h = tt
     children (x ∷ xs) h = (omega (arith, h.0.child), children xs h.1)
-
-both_leaf : (limit : ℕ) (kind : Kind) (xs ys : List Item) → AllByRecursion (LeafItem limit kind) (xs ++ ys)
-    → AllByRecursion (LeafItem limit kind) xs × AllByRecursion (LeafItem limit kind) ys
-both_leaf limit kind [] ys h = (tt, h)
-both_leaf limit kind (x ∷ xs) ys h = let r = both_leaf limit kind xs ys h.1 in ((h.0, r.0), r.1)
 
 last_leaf : (limit : ℕ) (kind : Kind) (xs : List Item) → 1 ≤ length xs → AllByRecursion (LeafItem limit kind) xs → LeafItem limit kind (last_of no_item xs)
 last_leaf limit kind [] some h = absurd (omega arith)
@@ -118,9 +113,10 @@ pub order_shown : (f : File) (low : Option ℤ) (hs : List Held) (es : List Entr
 order_shown f low [] [] w r = tt
 order_shown f low [] (e ∷ es) w r = absurd w
 order_shown f low (h ∷ hs) [] w r = absurd w
-order_shown f low (h ∷ hs) (e ∷ es) w r =
-    (subst (λ n. Follows low (nat_eq n 0) h.rowid) (sym w.0.total) (subst (λ o. Follows low (nat_eq (length e.bytes) 0) o) (sym w.0.rowid) r.0),
-    order_shown f h.rowid hs es w.1 (subst (λ o. InRise o es) (sym w.0.rowid) r.1))
+order_shown f low (h ∷ hs) (e ∷ es) w r = (
+  subst (λ n. Follows low (nat_eq n 0) h.rowid) (sym w.0.total) (subst (λ o. Follows low (nat_eq (length e.bytes) 0) o) (sym w.0.rowid) r.0),
+  order_shown f h.rowid hs es w.1 (subst (λ o. InRise o es) (sym w.0.rowid) r.1),
+)
 
 entry_follows : (low : Option ℤ) (e : Entry) (es : List Entry) → RowidsRise low (e ∷ es) → 1 ≤ length e.bytes → Follows low (nat_eq (length e.bytes) 0) e.rowid
 entry_follows None e es r some =
@@ -140,9 +136,10 @@ group_order : (limit : ℕ) (low : Option ℤ) (xs : List Item) (ds rest : List 
 group_order limit low [] ds rest some ok r more = absurd (omega arith)
 group_order limit low (x ∷ []) ds rest some ok r more =
     (entry_follows low x.entry ds r ok.0.entry.some, (key_follows x.entry.rowid r.0 r.1, more x.entry.rowid refl (subst (λ o. RowidsRise o ds) (sym r.1) r.3)))
-group_order limit low (x ∷ y ∷ ys) ds rest some ok r more =
-    (entry_follows low x.entry (map entry_of (y ∷ ys) ++ ds) r ok.0.entry.some,
-    group_order limit x.entry.rowid (y ∷ ys) ds rest (omega arith) ok.1 (subst (λ o. RowidsRise o (map entry_of (y ∷ ys) ++ ds)) (sym r.1) r.3) more)
+group_order limit low (x ∷ y ∷ ys) ds rest some ok r more = (
+  entry_follows low x.entry (map entry_of (y ∷ ys) ++ ds) r ok.0.entry.some,
+  group_order limit x.entry.rowid (y ∷ ys) ds rest (omega arith) ok.1 (subst (λ o. RowidsRise o (map entry_of (y ∷ ys) ++ ds)) (sym r.1) r.3) more,
+)
 
 pub last_order : (limit : ℕ) (low : Option ℤ) (xs : List Item) → AllByRecursion (LeafItem limit Table) xs → RowidsRise low (map entry_of xs) → InRise low (map entry_of xs)
 last_order limit low [] ok r = tt
@@ -153,7 +150,7 @@ table_order : (limit : ℕ) (low : Option ℤ) (firsts : List (List Item × Item
     → RowidsRise low (map entry_of (joined_from firsts last)) → InRise low (map entry_of (flat_from firsts last))
 table_order limit low [] last keyed ok r = last_order limit low last ok r
 table_order limit low (g ∷ gs) last keyed ok r =
-    let parts = both_leaf limit Table g.0 (joined_from gs last) ok in
+    let parts = both_all (LeafItem limit Table) g.0 (joined_from gs last) ok in
     let rest = map entry_of (flat_from gs last) in
     let apart = subst (RowidsRise low) (map-append entry_of g.0 (joined_from gs last)) r in
     let key : key_of (last_of no_item g.0).entry ≡ g.1.entry = ap (λ (x : Item). x.entry) (sym keyed.0) in
@@ -179,7 +176,7 @@ table_groups : (f : File) (total : ℕ) (firsts : List (List Item × Item)) (las
     → GroupsAre f Table true total firsts last 0
 table_groups f total [] last keyed ok fits last_fits = record { each = tt; last_is = group_is f Table total last 0 ok refl last_fits }
 table_groups f total (g ∷ gs) last keyed ok fits last_fits =
-    let parts = both_leaf (f.pages * f.usable) Table g.0 (joined_from gs last) ok in
+    let parts = both_all (LeafItem (f.pages * f.usable) Table) g.0 (joined_from gs last) ok in
     let more = table_groups f total gs last keyed.2 parts.1 fits.1 last_fits in
     let end = last_leaf (f.pages * f.usable) Table g.0 keyed.1 parts.0 in
     record {
@@ -191,15 +188,16 @@ table_good : (limit : ℕ) (firsts : List (List Item × Item)) (last : List Item
     → AllByRecursion (λ (g : List Item × Item). ItemIs limit Table false g.1) firsts
 table_good limit [] last keyed ok = tt
 table_good limit (g ∷ gs) last keyed ok =
-    let parts = both_leaf limit Table g.0 (joined_from gs last) ok in
-    (subst (ItemIs limit Table false) (sym keyed.0) (key_above limit (last_of no_item g.0) (last_leaf limit Table g.0 keyed.1 parts.0)),
-    table_good limit gs last keyed.2 parts.1)
+    let parts = both_all (LeafItem limit Table) g.0 (joined_from gs last) ok in (
+      subst (ItemIs limit Table false) (sym keyed.0) (key_above limit (last_of no_item g.0) (last_leaf limit Table g.0 keyed.1 parts.0)),
+      table_good limit gs last keyed.2 parts.1,
+    )
 
 table_each : (firsts : List (List Item × Item)) → Keyed key_item no_item firsts → AllByRecursion (λ (g : List Item × Item). g.0 ≢ []) firsts
 table_each [] keyed = tt
 table_each (g ∷ gs) keyed = ((λ none. absurd (omega (arith, keyed.1, ap length none))), table_each gs keyed.2)
 
-table_last : (need : Item → ℕ) (key : Item → Item) (d : Item) (room : ℕ) (held : List Item) (left : ℕ) (xs : List Item) → 1 ≤ length held + length xs
+pub table_last : (need : Item → ℕ) (key : Item → Item) (d : Item) (room : ℕ) (held : List Item) (left : ℕ) (xs : List Item) → 1 ≤ length held + length xs
     → 1 ≤ length (leaves need key d room held left xs).last
 table_last need key d room held left [] some = omega (arith, some)
 table_last need key d room held left (x ∷ xs) some =
@@ -216,16 +214,12 @@ table_entries : (limit : ℕ) (firsts : List (List Item × Item)) (last : List I
 table_entries limit [] last keyed ok =
     ap some_bytes (sym (append-nil (map entry_of last))) ∙ kept_all limit Table last [] ok ∙ append-nil (map entry_of last)
 table_entries limit (g ∷ gs) last keyed ok =
-    let parts = both_leaf limit Table g.0 (joined_from gs last) ok in
+    let parts = both_all (LeafItem limit Table) g.0 (joined_from gs last) ok in
     let rest = map entry_of (flat_from gs last) in
     let key : g.1.entry ≡ key_of (last_of no_item g.0).entry = ap (λ (x : Item). x.entry) keyed.0 in
     ap some_bytes (map-append entry_of g.0 (g.1 ∷ flat_from gs last)) ∙ kept_all limit Table g.0 (g.1.entry ∷ rest) parts.0
     ∙ ap (λ (k : Entry). map entry_of g.0 ++ some_bytes (k ∷ rest)) key ∙ ap (λ (t : List Entry). map entry_of g.0 ++ t) (table_entries limit gs last keyed.2 parts.1)
     ∙ sym (map-append entry_of g.0 (joined_from gs last))
-
-fit_all : (usable : ℕ) (kind : Kind) (xs : List Item) → 480 ≤ usable → AllByRecursion (λ (x : Item). need_of usable kind true x ≤ room_in usable true) xs
-fit_all usable kind [] least = tt
-fit_all usable kind (x ∷ xs) least = (leaf_fits usable kind x least, fit_all usable kind xs least)
 
 table_leaves : (f : File) (total : ℕ) (es : List Entry) → 480 ≤ f.usable → AllByRecursion (IsEntry (f.pages * f.usable) Table) es
     → LeavesAre f Table total es (leaf_cut f.usable Table es).firsts (leaf_cut f.usable Table es).last
@@ -234,7 +228,7 @@ table_leaves f total es least ok =
     let room = room_in f.usable true in
     let xs = map leaf_item es in
     let cut = leaf_cut f.usable Table es in
-    let fit = fit_all f.usable Table xs least in
+    let fit = each_is (λ x. need x ≤ room) (λ x. leaf_fits f.usable Table x least) xs in
     let joined_is : joined_from cut.firsts cut.last ≡ xs = leaves_joined need key_item no_item room [] room xs in
     let keyed = leaves_keyed need key_item no_item room [] room xs fit (omega arith) in
     let fits = leaves_fit need key_item no_item room [] room xs fit (omega arith) in
@@ -260,7 +254,7 @@ index_groups : (f : File) (total : ℕ) (firsts : List (List Item × Item)) (las
     → GroupsAre f Index true total firsts last 0
 index_groups f total [] last ok fits last_fits = record { each = tt; last_is = group_is f Index total last 0 ok refl last_fits }
 index_groups f total (g ∷ gs) last ok fits last_fits =
-    let parts = both_leaf (f.pages * f.usable) Index g.0 (g.1 ∷ flat_from gs last) ok in
+    let parts = both_all (LeafItem (f.pages * f.usable) Index) g.0 (g.1 ∷ flat_from gs last) ok in
     let more = index_groups f total gs last parts.1.1 fits.1 last_fits in
     record { each = (group_is f Index total g.0 g.1.child parts.0 parts.1.0.child fits.0, more.each); last_is = more.last_is }
 
@@ -268,21 +262,20 @@ index_good : (limit : ℕ) (firsts : List (List Item × Item)) (last : List Item
     → AllByRecursion (λ (g : List Item × Item). ItemIs limit Index false g.1) firsts
 index_good limit [] last ok = tt
 index_good limit (g ∷ gs) last ok =
-    let parts = both_leaf limit Index g.0 (g.1 ∷ flat_from gs last) ok in (index_above limit g.1 parts.1.0, index_good limit gs last parts.1.1)
+    let parts = both_all (LeafItem limit Index) g.0 (g.1 ∷ flat_from gs last) ok in (index_above limit g.1 parts.1.0, index_good limit gs last parts.1.1)
 
-half_all : (usable : ℕ) (xs : List Item) → 480 ≤ usable → AllByRecursion (λ (x : Item). 2 * need_of usable Index true x ≤ room_in usable true) xs
-half_all usable [] least = tt
-half_all usable (x ∷ xs) least = (omega (arith, index_half usable true x least), half_all usable xs least)
+index_two : (usable : ℕ) (x : Item) → 480 ≤ usable → 2 * need_of usable Index true x ≤ room_in usable true
+index_two usable x least = omega (arith, index_half usable true x least)
 
 index_each : (f : File) (es : List Entry) → 480 ≤ f.usable → AllByRecursion (λ (g : List Item × Item). g.0 ≢ []) (leaf_cut f.usable Index es).firsts
 index_each f [] least = tt
 index_each f (e ∷ es) least =
-    let w = cuts_some (need_of f.usable Index true) (room_in f.usable true) [] (room_in f.usable true) (map leaf_item (e ∷ es)) tt (half_all f.usable (map leaf_item (e ∷ es)) least) (omega arith) (λ none. cc) in w.each
+    let w = cuts_some (need_of f.usable Index true) (room_in f.usable true) [] (room_in f.usable true) (map leaf_item (e ∷ es)) tt (each_is (λ x. 2 * need_of f.usable Index true x ≤ room_in f.usable true) (λ x. index_two f.usable x least) (map leaf_item (e ∷ es))) (omega arith) (λ none. cc) in w.each
 
 index_last : (f : File) (es : List Entry) → 480 ≤ f.usable → es ≢ [] → (leaf_cut f.usable Index es).last ≢ []
 index_last f [] least some = λ e. some refl
 index_last f (e ∷ es) least some =
-    let w = cuts_some (need_of f.usable Index true) (room_in f.usable true) [] (room_in f.usable true) (map leaf_item (e ∷ es)) tt (half_all f.usable (map leaf_item (e ∷ es)) least) (omega arith) (λ none. cc) in w.last_some
+    let w = cuts_some (need_of f.usable Index true) (room_in f.usable true) [] (room_in f.usable true) (map leaf_item (e ∷ es)) tt (each_is (λ x. 2 * need_of f.usable Index true x ≤ room_in f.usable true) (λ x. index_two f.usable x least) (map leaf_item (e ∷ es))) (omega arith) (λ none. cc) in w.last_some
 
 index_leaves : (f : File) (total : ℕ) (es : List Entry) → 480 ≤ f.usable → AllByRecursion (IsEntry (f.pages * f.usable) Index) es
     → LeavesAre f Index total es (leaf_cut f.usable Index es).firsts (leaf_cut f.usable Index es).last
@@ -292,7 +285,7 @@ index_leaves f total es least ok =
     let xs = map leaf_item es in
     let cut = leaf_cut f.usable Index es in
     let flat_is : flat_from cut.firsts cut.last ≡ xs = cuts_flat need room [] room xs in
-    let fits = cuts_fit need room [] room xs (fit_all f.usable Index xs least) (omega arith) in
+    let fits = cuts_fit need room [] room xs (each_is (λ x. need x ≤ room) (λ x. leaf_fits f.usable Index x least) xs) (omega arith) in
     let plain = leaf_items (f.pages * f.usable) Index es ok in
     let items = subst (AllByRecursion (LeafItem (f.pages * f.usable) Index)) (sym flat_is) plain in
     let whole : some_bytes (map entry_of xs) ≡ map entry_of xs
@@ -330,6 +323,6 @@ leaf_reached f number total a kind r es least most w root le s =
     record {
       forest = leaves_over f number kind r 0 cut.firsts cut.last 0 (λ q. count q (numbers number 0 (leaf_line f.usable kind es).next)) says w.each
           (λ other. w.last_some (λ none. absurd (other (sym (root none))))) (λ q. ap (λ n. count q (numbers number 0 n)) count_is);
-      good = line_good f.usable (f.pages * f.usable) kind 0 cut.firsts cut.last w.good;
+      good = line_all (IsCell (f.pages * f.usable) kind false) f.usable kind 0 cut.firsts cut.last w.good;
       below = line_below f.usable kind true total 0 cut.firsts cut.last 0 within;
     }

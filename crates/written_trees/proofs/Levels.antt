@@ -1,22 +1,21 @@
 -- The levels of a written tree, one over another.
-use Rattle.std.proofs.Common.{◌≡◌, ◌≢◌, ◌<◌, ◌≤◌, ℕ, zero, suc, ◌+◌, ◌-◌, ◌*◌, ◌^◌, Bool, true, false, List, [], ◌∷◌, ◌++◌, length, map, nat_le, nat_eq, sum_by, refl, sym, ap, ◌∙◌, subst, arith, append_assoc, append-nil, length-append}
+use Rattle.std.proofs.Common.{◌≡◌, ◌≢◌, ◌<◌, ◌≤◌, ℕ, zero, suc, ◌+◌, ◌-◌, ◌*◌, Bool, true, false, List, [], ◌∷◌, ◌++◌, length, nat_le, nat_eq, sum_by, refl, sym, ap, ◌∙◌, subst, arith, append_assoc, append-nil}
 use Rattle.std.specs.Prelude.{if◌then◌else◌}
 use Rattle.std.specs.List.{AllByRecursion}
 use Rattle.std.proofs.lemmas.Bool.Decides.{nat_tests}
 use Rattle.std.proofs.lemmas.List.Sums.{sum_by-cons}
 use Rattle.page_access.specs.Pages.{File}
 use Rattle.page_lists.specs.Lists.{count}
-use Rattle.page_lists.specs.Table.{is_page}
 use Rattle.cell_reader.specs.declared.shapes.Kind.{Kind}
 use Rattle.cell_reader.specs.declared.shapes.Kind.TheVariants.{Table, Index}
 use Rattle.cell_reader.specs.Shape.{head_of, header_len}
-use Rattle.tree_writer.specs.Cells.{item_overs, need_of, overs, width_of}
+use Rattle.tree_writer.specs.Cells.{need_of, width_of}
 use Rattle.tree_writer.specs.Entry.{Entry, Item}
-use Rattle.tree_writer.specs.Groups.{Cut, cons_cut, cuts, end_of, flat_from, give_up, past, start_of}
+use Rattle.tree_writer.specs.Groups.{Cut, cuts, flat_from, past}
 use Rattle.tree_writer.specs.Layout.{pages_from, sheet_pages}
 use Rattle.tree_writer.specs.Levels.{Line, Sheet, level_cut, level_sheets, line_above, line_from, needs, pages_in, room_in, sheets_from, sheets_of, top_line}
-use Rattle.tree_writer.proofs.Cuts.{CutFits, all_push, cuts_few, cuts_fit, cuts_flat, two_held}
-use Rattle.tree_writer.proofs.Lists.{length_push, sum_push}
+use Rattle.tree_writer.proofs.Cuts.{all_push, cuts_few, cuts_fit, cuts_flat, two_held}
+use Rattle.tree_writer.proofs.Lists.{sum_push}
 use Rattle.tree_writer.proofs.Needs.{index_half, key_half}
 use Rattle.tree_writer.proofs.Rising.{line_len, line_pages}
 use Rattle.tree_writer.proofs.Writing.{length-sheet}
@@ -25,9 +24,13 @@ use Rattle.written_trees.proofs.Forests.{Forest, HaveCells, LevelSays, level_ove
 use Rattle.written_trees.proofs.Numbers.{Stand, count-numbers, number_is_page, numbers_least, stand_apart}
 use Rattle.written_trees.proofs.Sheets.{IsCell, ItemIs, SheetSays, sheet_says}
 
-both_all : {X : Type 0} (P : X → Type 0) (xs ys : List X) → AllByRecursion P (xs ++ ys) → AllByRecursion P xs × AllByRecursion P ys
+pub both_all : {X : Type 0} (P : X → Type 0) (xs ys : List X) → AllByRecursion P (xs ++ ys) → AllByRecursion P xs × AllByRecursion P ys
 both_all P [] ys h = (tt, h)
 both_all P (x ∷ xs) ys h = let r = both_all P xs ys h.1 in ((h.0, r.0), r.1)
+
+pub each_is : {X : Type 0} (P : X → Type 0) → ((x : X) → P x) → (xs : List X) → AllByRecursion P xs
+each_is P h [] = tt
+each_is P h (x ∷ xs) = (h x, each_is P h xs)
 
 -- ---- pages of several levels
 
@@ -44,9 +47,10 @@ pages_apart f kind number k (x ∷ ss) ts s =
     = subst (λ n. Stand f number (k + n) (pages_from f.usable kind number (k + w) (ss ++ ts))) (length-sheet f.usable kind number k x) parts.1 in
     let more = pages_apart f kind number (k + w) ss ts behind in
     let place : k + w + pages_in f.usable kind ss ≡ k + pages_in f.usable kind (x ∷ ss)
-    = omega (arith, sum_by-cons (λ (t : Sheet). width_of f.usable kind t.items) x ss) in
-    (joined one (pages_from f.usable kind number (k + w) ss) (length-sheet f.usable kind number k x) parts.0 more.0,
-    subst (λ n. Stand f number n (pages_from f.usable kind number n ts)) place more.1)
+    = omega (arith, sum_by-cons (λ (t : Sheet). width_of f.usable kind t.items) x ss) in (
+      joined one (pages_from f.usable kind number (k + w) ss) (length-sheet f.usable kind number k x) parts.0 more.0,
+      subst (λ n. Stand f number n (pages_from f.usable kind number n ts)) place more.1,
+    )
   where
     join : (i : ℕ) (xs ys : List (List ℕ)) → Stand f number i xs → Stand f number (i + length xs) ys → Stand f number i (xs ++ ys)
     join i [] ys a b = subst (λ n. Stand f number n ys) (omega arith) b
@@ -101,9 +105,10 @@ level_said f number total a kind leaf k (x ∷ xs) last right least most g le s 
     let sums = sum_by-cons (λ (t : Sheet). width_of f.usable kind t.items) page rest in
     let parts = stand_apart f number k (sheet_pages f.usable kind number k page) (pages_from f.usable kind number (k + w) rest) s in
     let behind : Stand f number (k + w) (pages_from f.usable kind number (k + w) rest)
-    = subst (λ n. Stand f number (k + n) (pages_from f.usable kind number (k + w) rest)) (length-sheet f.usable kind number k page) parts.1 in
-    (page_said f number total a kind leaf k x.0 x.1.child least most g.each.0 (omega (arith, le, sums)) parts.0,
-    level_said f number total a kind leaf (k + w) xs last right least most (record { each = g.each.1; last_is = g.last_is }) (omega (arith, le, sums)) behind)
+    = subst (λ n. Stand f number (k + n) (pages_from f.usable kind number (k + w) rest)) (length-sheet f.usable kind number k page) parts.1 in (
+      page_said f number total a kind leaf k x.0 x.1.child least most g.each.0 (omega (arith, le, sums)) parts.0,
+      level_said f number total a kind leaf (k + w) xs last right least most (record { each = g.each.1; last_is = g.last_is }) (omega (arith, le, sums)) behind,
+    )
 
 -- ---- groups
 
@@ -160,13 +165,13 @@ groups_are f kind total (g ∷ gs) last right le ok below fits last_fits =
       last_is = more.last_is;
     }
 
--- the cells of the line over a level
-pub line_good : (usable limit : ℕ) (kind : Kind) (k : ℕ) (firsts : List (List Item × Item)) (last : List Item)
-    → AllByRecursion (λ (g : List Item × Item). ItemIs limit kind false g.1) firsts → AllByRecursion (ItemIs limit kind false) (line_from (width_of usable kind) k firsts last).cells
-line_good usable limit kind k [] last ok = tt
-line_good usable limit kind k (g ∷ gs) last ok = (ok.0, line_good usable limit kind (k + width_of usable kind g.0) gs last ok.1)
+-- what holds of the entries of a level's separators holds of the cells of the line over it
+pub line_all : (Q : Entry → Type 0) (usable : ℕ) (kind : Kind) (k : ℕ) (firsts : List (List Item × Item)) (last : List Item)
+    → AllByRecursion (λ (g : List Item × Item). Q g.1.entry) firsts → AllByRecursion (λ (x : Item). Q x.entry) (line_from (width_of usable kind) k firsts last).cells
+line_all Q usable kind k [] last ok = tt
+line_all Q usable kind k (g ∷ gs) last ok = (ok.0, line_all Q usable kind (k + width_of usable kind g.0) gs last ok.1)
 
-separators : (P : Item → Type 0) (firsts : List (List Item × Item)) (last : List Item) → AllByRecursion P (flat_from firsts last) → AllByRecursion (λ (g : List Item × Item). P g.1) firsts
+pub separators : (P : Item → Type 0) (firsts : List (List Item × Item)) (last : List Item) → AllByRecursion P (flat_from firsts last) → AllByRecursion (λ (g : List Item × Item). P g.1) firsts
 separators P [] last all = tt
 separators P (g ∷ gs) last all =
     let b = both_all P g.0 (g.1 ∷ flat_from gs last) all in (b.1.0, separators P gs last b.1.1)
@@ -219,7 +224,7 @@ next_reached f number total a kind r es d line least most w some le s =
           ap (λ n. count q (numbers number 0 n)) next ∙ count-numbers number q 0 line.next (pages_in f.usable kind sheets)
           ∙ ap (λ n. count q (numbers number 0 line.next) + count q (numbers number n (pages_in f.usable kind sheets))) place
           ∙ swapped (count q (numbers number 0 line.next)) (count q (numbers number line.next (pages_in f.usable kind sheets))));
-      good = line_good f.usable (f.pages * f.usable) kind line.next cut.firsts cut.last (separators (ItemIs (f.pages * f.usable) kind false) cut.firsts cut.last good);
+      good = line_all (IsCell (f.pages * f.usable) kind false) f.usable kind line.next cut.firsts cut.last (separators (ItemIs (f.pages * f.usable) kind false) cut.firsts cut.last good);
       below = line_below f.usable kind false total line.next cut.firsts cut.last line.right le;
     }
   where

@@ -7,3 +7,5 @@ pub mod Forests
 pub mod Levels
 pub mod Leaves
 pub mod Whole
+pub mod Few
+pub mod Serving

@@ -1,5 +1,5 @@
 -- Page numbers in a row, and the pages that stand at them.
-use Rattle.std.proofs.Common.{◌≡◌, ◌<◌, ◌≤◌, ℕ, zero, suc, ◌+◌, ◌-◌, ◌^◌, Bool, true, false, List, [], ◌∷◌, ◌++◌, length, get_or, nat_eq, nat_le, ◌&&◌, refl, sym, ap, ◌∙◌, subst, arith, length-append}
+use Rattle.std.proofs.Common.{◌≡◌, ◌<◌, ◌≤◌, ℕ, zero, suc, ◌+◌, Bool, true, false, List, [], ◌∷◌, ◌++◌, length, get_or, nat_eq, refl, ap, ◌∙◌, subst, arith}
 use Rattle.std.specs.Prelude.{if◌then◌else◌}
 use Rattle.std.proofs.lemmas.Bool.Decides.{nat_tests}
 use Rattle.page_access.specs.Pages.{File, page_at}
@@ -94,9 +94,10 @@ stand_apart f number k (x ∷ xs) ys s =
 stand_from : (f : File) (number : ℕ → ℕ) (k : ℕ) (pages : List (List ℕ)) → ((i : ℕ) → i < length pages → page_at f (number (k + i)) ≡ get_or pages i []) → Stand f number k pages
 stand_from f number k [] h = tt
 stand_from f number k (page ∷ pages) h =
-    let place : k + 0 ≡ k = omega arith in
-    (subst (λ n. page_at f (number n) ≡ page) place (h 0 (omega arith)),
-    stand_from f number (k + 1) pages (λ i lt. subst (λ n. page_at f (number n) ≡ get_or pages i []) (omega arith) (h (suc i) (omega (arith, lt)))))
+    let place : k + 0 ≡ k = omega arith in (
+      subst (λ n. page_at f (number n) ≡ page) place (h 0 (omega arith)),
+      stand_from f number (k + 1) pages (λ i lt. subst (λ n. page_at f (number n) ≡ get_or pages i []) (omega arith) (h (suc i) (omega (arith, lt)))),
+    )
 
 pub stand_all : (f : File) (number : ℕ → ℕ) (pages : List (List ℕ)) → HoldsPages f number pages → Stand f number 0 pages
 stand_all f number pages h = stand_from f number 0 pages (λ i lt. subst (λ n. page_at f (number n) ≡ get_or pages i []) (omega arith) (h i lt))

@@ -1,23 +1,21 @@
 -- A written page says its cells.
-use Rattle.std.proofs.Common.{◌≡◌, ◌<◌, ◌≤◌, ℕ, zero, suc, ◌+◌, ◌-◌, ◌*◌, ◌^◌, ◌%◌, Bool, true, false, ◌||◌, ◌&&◌, List, [], ◌∷◌, ◌++◌, length, take, drop, map, nat_lt, nat_le, refl, sym, ap, ◌∙◌, subst, arith, append_assoc, append-nil, length-append, length-drop, length-take, drop-drop}
-use Rattle.std.specs.Prelude.{if◌then◌else◌, Option, Some, None, Ok, replicate, slice_index, slice_range}
+use Rattle.std.proofs.Common.{◌≡◌, ◌<◌, ◌≤◌, ℕ, ◌+◌, ◌-◌, ◌*◌, ◌^◌, ◌%◌, Bool, true, false, ◌||◌, List, [], ◌∷◌, ◌++◌, length, take, drop, map, nat_lt, nat_le, refl, sym, ap, ◌∙◌, subst, arith, append_assoc, append-nil, length-append, length-drop, length-take, drop-drop}
+use Rattle.std.specs.Prelude.{if◌then◌else◌, Some, None, Ok, replicate, slice_index, slice_range}
 use Rattle.std.specs.List.{AllByRecursion, list_all}
 use Rattle.std.proofs.Math.Seq.{drop-append-add, get_or-append_seam}
 use Rattle.std.proofs.lemmas.Bool.Decides.{nat_tests}
 use Rattle.std.proofs.lemmas.List.{drop_at, length-map, length-replicate, take_all, take_at}
 use Rattle.byteorder.specs.Endian.{big_bytes, big_number}
 use Rattle.byteorder.specs.Numbers.{big_number-reads_back, length-bytes_high_first}
-use Rattle.page_access.specs.Pages.{File, page_at}
-use Rattle.page_lists.specs.Table.{is_page}
 use Rattle.cell_reader.specs.declared.shapes.Kind.{Kind}
 use Rattle.cell_reader.specs.declared.shapes.Kind.TheVariants.{Table, Index}
 use Rattle.cell_reader.specs.declared.shapes.PageShape.{PageShape}
 use Rattle.cell_reader.specs.declared.cells.CellView.{CellView}
-use Rattle.cell_reader.specs.Cell.{cell_of, pointer_of, size_of, view_at}
+use Rattle.cell_reader.specs.Cell.{cell_of, size_of, view_at}
 use Rattle.cell_reader.specs.Screen.{are_apart, screened_from, verdicts}
 use Rattle.cell_reader.specs.Shape.{head_of, header_len, right_of, shape_at, shape_of, type_of, u16_at, u32_at}
-use Rattle.tree_forms.specs.Node.{Held, Node, held_of, node_of, node_on, said_by}
-use Rattle.tree_writer.specs.Cells.{Laid, cell_bytes, head_part, kept_of, link, payload_part}
+use Rattle.tree_forms.specs.Node.{Held, held_of, node_of, node_on, said_by}
+use Rattle.tree_writer.specs.Cells.{Laid, cell_bytes, head_part, kept_of, link}
 use Rattle.tree_writer.specs.Page.{content, header, page_bytes, pointers, slot, slot_size, stack, top_of, type_byte}
 use Rattle.tree_writer.proofs.Lens.{length-slot, local_le}
 use Rattle.written_trees.specs.Laws.{PagesSayTheirCells}

@@ -1,16 +1,14 @@
 -- A written page with its overflow pages: it says its cells, each of which holds its entry.
-use Rattle.std.proofs.Common.{◌≡◌, ◌≢◌, ◌<◌, ◌≤◌, ℕ, zero, suc, ◌+◌, ◌-◌, ◌*◌, ◌/◌, ◌%◌, ◌^◌, ℤ, Bool, true, false, List, [], ◌∷◌, ◌++◌, length, take, drop, map, nat_eq, sum, sum_by, refl, sym, ap, ◌∙◌, subst, arith, append-nil, length-append, length-take, length-drop}
+use Rattle.std.proofs.Common.{◌≡◌, ◌≢◌, ◌<◌, ◌≤◌, ℕ, suc, ◌+◌, ◌-◌, ◌*◌, ◌^◌, ℤ, Bool, true, false, List, [], ◌∷◌, ◌++◌, length, take, drop, map, nat_eq, refl, sym, ap, ◌∙◌, subst, arith, append-nil, length-take, length-drop}
 use Rattle.std.specs.Prelude.{if◌then◌else◌, Option, Some, None}
 use Rattle.std.specs.List.{AllByRecursion, flat_map}
 use Rattle.std.specs.Option.{option_map}
-use Rattle.std.specs.Int.{w64}
 use Rattle.std.proofs.lemmas.Bool.Decides.{nat_tests}
-use Rattle.std.proofs.lemmas.List.{take_all, take-append-drop, length-map}
+use Rattle.std.proofs.lemmas.List.{take_all, take-append-drop}
 use Rattle.std.proofs.lemmas.List.Sums.{sum_by-cons}
-use Rattle.byteorder.specs.Endian.{low_bytes, twos_complement}
+use Rattle.byteorder.specs.Endian.{twos_complement}
 use Rattle.page_access.specs.Pages.{File, page_at}
 use Rattle.page_lists.specs.Table.{is_page}
-use Rattle.record_core.specs.Shortest.{steps}
 use Rattle.record_core.proofs.Numbers.{low_back}
 use Rattle.overflow_chain.specs.Chain.{chain_len, contents}
 use Rattle.overflow_chain.proofs.Turns.{chain_len-zero}
@@ -19,20 +17,18 @@ use Rattle.cell_reader.specs.declared.shapes.Kind.TheVariants.{Table, Index}
 use Rattle.cell_reader.specs.Inside.{has_payload}
 use Rattle.cell_reader.specs.Shape.{head_of, header_len}
 use Rattle.tree_forms.specs.Node.{Held, Node, cells_in, child_of, node_of, number_in}
-use Rattle.tree_forms.specs.Payload.{ChainFrom, HasChain, chain_from, chain_of, missing_of, own_of, payload_of}
-use Rattle.tree_forms.specs.Tree.{Holds, bare}
-use Rattle.tree_writer.specs.Cells.{Laid, cell_bytes, chain_pages, chains_from, item_overs, kept_of, laid_from, laid_of, over_count, over_pages, overs}
+use Rattle.tree_forms.specs.Payload.{ChainFrom, chain_from, chain_of, own_of, payload_of}
+use Rattle.tree_forms.specs.Tree.{Holds}
+use Rattle.tree_writer.specs.Cells.{Laid, chain_pages, chains_from, item_overs, kept_of, laid_from, laid_of, over_count, overs}
 use Rattle.tree_writer.specs.Entry.{Entry, Item, raw_of}
-use Rattle.tree_writer.specs.Layout.{cells_for, sheet_page}
+use Rattle.tree_writer.specs.Layout.{sheet_page}
 use Rattle.tree_writer.specs.Levels.{Sheet, needs}
-use Rattle.tree_writer.specs.Page.{stack}
-use Rattle.tree_writer.specs.Plan.{slot_for}
 use Rattle.tree_writer.proofs.Chaining.{length-chain}
 use Rattle.tree_writer.proofs.Laying.{needs_slots, stack_len}
 use Rattle.tree_writer.proofs.Lens.{local_le}
 use Rattle.written_trees.specs.Trees.{AreNumbers, HasRowid, Shows, numbers}
 use Rattle.written_trees.specs.Written.{IsPage, IsWritten, laid_node, rowid_in, said}
-use Rattle.written_trees.proofs.Chains.{IsOver, over_is}
+use Rattle.written_trees.proofs.Chains.{over_is}
 use Rattle.written_trees.proofs.Numbers.{Stand, numbers_more, stand_apart}
 use Rattle.written_trees.proofs.Pages.{page_says}
 
@@ -167,16 +163,18 @@ all_written : (f : File) (number : ℕ → ℕ) (total : ℕ) → AreNumbers f n
     → AllByRecursion (IsWritten (f.pages * f.usable) kind leaf) (laid_from f.usable kind number j xs)
 all_written f number total a kind leaf j [] ok children le = tt
 all_written f number total a kind leaf j (x ∷ xs) ok children le =
-    let sums = sum_by-cons (item_overs f.usable kind) x xs in
-    (record {
-      child = a.small x.child children.0;
-      next = a.small j (omega (arith, le, sums));
-      rowid = raw_small x.entry.rowid;
-      some = ok.0.some;
-      none = ok.0.none;
-      most = ok.0.most;
-      large = ok.0.large;
-    }, all_written f number total a kind leaf (j + over_count f.usable kind x.entry) xs ok.1 children.1 (omega (arith, le, sums)))
+    let sums = sum_by-cons (item_overs f.usable kind) x xs in (
+      record {
+        child = a.small x.child children.0;
+        next = a.small j (omega (arith, le, sums));
+        rowid = raw_small x.entry.rowid;
+        some = ok.0.some;
+        none = ok.0.none;
+        most = ok.0.most;
+        large = ok.0.large;
+      },
+      all_written f number total a kind leaf (j + over_count f.usable kind x.entry) xs ok.1 children.1 (omega (arith, le, sums)),
+    )
 
 length-laid : (usable : ℕ) (kind : Kind) (number : ℕ → ℕ) (j : ℕ) (xs : List Item) → length (laid_from usable kind number j xs) ≡ length xs
 length-laid usable kind number j [] = refl

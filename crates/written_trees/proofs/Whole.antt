@@ -1,6 +1,6 @@
 -- The pages of a plan are a well-formed tree.
-use Rattle.std.proofs.Common.{◌≡◌, ◌≢◌, ◌<◌, ◌≤◌, ℕ, zero, suc, ◌+◌, ◌-◌, ◌*◌, ◌^◌, Bool, true, false, List, [], ◌∷◌, ◌++◌, length, map, nat_le, nat_eq, sum_by, refl, sym, ap, ◌∙◌, subst, arith, append-nil}
-use Rattle.std.specs.Prelude.{if◌then◌else◌, Option, Some, None}
+use Rattle.std.proofs.Common.{◌≡◌, ◌≢◌, ◌<◌, ◌≤◌, ℕ, suc, ◌+◌, ◌-◌, ◌*◌, Bool, true, false, List, [], ◌∷◌, ◌++◌, length, map, nat_eq, refl, sym, ap, ◌∙◌, subst, arith, append-nil}
+use Rattle.std.specs.Prelude.{if◌then◌else◌, None}
 use Rattle.std.specs.List.{AllByRecursion}
 use Rattle.std.proofs.lemmas.Bool.Decides.{nat_tests}
 use Rattle.std.proofs.lemmas.List.Sums.{sum_by-cons}
@@ -9,22 +9,21 @@ use Rattle.page_lists.specs.Lists.{count}
 use Rattle.page_lists.specs.Table.{is_page}
 use Rattle.cell_reader.specs.declared.shapes.Kind.{Kind}
 use Rattle.cell_reader.specs.declared.shapes.Kind.TheVariants.{Table, Index}
-use Rattle.cell_reader.specs.Shape.{head_of}
 use Rattle.tree_forms.specs.Node.{node_of}
 use Rattle.tree_forms.specs.Payload.{own_of}
 use Rattle.tree_forms.specs.Tree.{items_of, pages_of}
-use Rattle.tree_writer.specs.Cells.{chains_from, item_overs, need_of, overs, width_of}
+use Rattle.tree_writer.specs.Cells.{chains_from, need_of, overs}
 use Rattle.tree_writer.specs.Entry.{Entry, Item, RowidsRise, leaf_item}
 use Rattle.tree_writer.specs.Layout.{pages_from, sheet_page}
-use Rattle.tree_writer.specs.Levels.{Line, Sheet, first_room, fits_first, leaf_cut, leaf_line, level_sheets, needs, pages_in, room_in, schema_sheets, schema_top, sheets_of, tree_line, tree_sheets}
+use Rattle.tree_writer.specs.Levels.{Sheet, first_room, fits_first, leaf_cut, leaf_line, level_sheets, needs, pages_in, schema_sheets, schema_top, sheets_of, tree_line, tree_sheets}
 use Rattle.tree_writer.specs.Trees.{schema_count, tree_count}
 use Rattle.tree_writer.proofs.Rising.{line_pages}
 use Rattle.tree_writer.proofs.Writing.{length-pages}
 use Rattle.written_trees.specs.Laws.{PagesAreTree, SchemaIsTree}
-use Rattle.written_trees.specs.Trees.{AllShow, AreNumbers, CanHold, HoldsPages, IsEntry, IsTreeOf, first_then, numbers}
+use Rattle.written_trees.specs.Trees.{AllShow, AreNumbers, CanHold, HoldsPages, IsTreeOf, first_then, numbers}
 use Rattle.written_trees.proofs.Forests.{Forest, TreeAt, entry_of, leaf_tree, page_over}
 use Rattle.written_trees.proofs.Leaves.{InRise, LeavesAre, entries_back, entries_shown, group_is, kept_all, last_order, leaf_items, leaf_reached, leaves_are, order_shown, row_entries, some_bytes}
-use Rattle.written_trees.proofs.Levels.{Reached, TopIs, pages-append, pages_apart, reach_top}
+use Rattle.written_trees.proofs.Levels.{Reached, pages-append, pages_apart, reach_top}
 use Rattle.written_trees.proofs.Numbers.{Stand, count-numbers, none_below, numbers_once, page_same, page_there, same_number, stand_all, stand_apart}
 use Rattle.written_trees.proofs.Sheets.{ItemIs, SheetSays, sheet_says}
 

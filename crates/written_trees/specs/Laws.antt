@@ -1,5 +1,5 @@
 -- Written cells, pages and trees are read back (docs/FORMAT.md, "Layout of a written file").
-use Rattle.std.specs.Prelude.{◌≡◌, ◌≤◌, ℕ, ◌-◌, ◌*◌, Bool, true, Some, Ok, List, ◌∷◌, ◌++◌, length}
+use Rattle.std.specs.Prelude.{◌≡◌, ◌≢◌, ◌≤◌, ◌<◌, ℕ, ◌^◌, ◌+◌, ◌-◌, ◌*◌, Bool, true, Some, Ok, List, ◌∷◌, ◌++◌, length, map}
 use Rattle.page_access.specs.Pages.{File, page_at}
 use Rattle.page_lists.specs.Table.{is_page}
 use Rattle.cell_reader.specs.declared.shapes.Kind.{Kind}
@@ -7,12 +7,13 @@ use Rattle.cell_reader.specs.declared.shapes.Kind.TheVariants.{Table}
 use Rattle.cell_reader.specs.Cell.{cell_parts}
 use Rattle.cell_reader.specs.Shape.{head_of}
 use Rattle.tree_forms.specs.Node.{node_of}
-use Rattle.tree_writer.specs.Cells.{Laid, cell_bytes}
-use Rattle.tree_writer.specs.Entry.{Entry}
+use Rattle.tree_writer.specs.Cells.{Laid, cell_bytes, overs}
+use Rattle.tree_writer.specs.Entry.{Entry, leaf_item}
 use Rattle.tree_writer.specs.Layout.{schema_pages, tree_pages}
 use Rattle.tree_writer.specs.Levels.{tree_line}
+use Rattle.tree_writer.specs.Numbers.{number_of}
 use Rattle.tree_writer.specs.Trees.{schema_count, tree_count}
-use Rattle.written_trees.specs.Trees.{CanHold, HoldsPages, IsTreeOf, first_then, numbers}
+use Rattle.written_trees.specs.Trees.{AreNumbers, CanHold, HoldsPages, IsTreeOf, first_then, numbers}
 use Rattle.written_trees.specs.Written.{IsPage, IsWritten, laid_node, laid_page, parts_in}
 
 -- a written cell is read back, whatever follows it
@@ -39,3 +40,18 @@ abbrev pub SchemaIsTree : Type 0
 SchemaIsTree = (f : File) (front : List ℕ) (number : ℕ → ℕ) (es : List Entry) → length front ≡ 100 → 1 ≤ f.pages
     → CanHold f Table number (schema_count f.usable es - 1) es → HoldsPages f (first_then number) (schema_pages front f.usable number es)
     → IsTreeOf f Table 1 es (1 ∷ numbers number 0 (schema_count f.usable es - 1))
+
+-- a tree has at most two pages for each entry and one more, its overflow pages apart
+abbrev pub PagesAreFew : Type 0
+PagesAreFew = (usable : ℕ) (kind : Kind) (es : List Entry) → 480 ≤ usable
+    → tree_count usable kind es ≤ 2 * length es + 1 + overs usable kind (map leaf_item es)
+
+abbrev pub SchemaPagesAreFew : Type 0
+SchemaPagesAreFew = (usable : ℕ) (es : List Entry) → 480 ≤ usable
+    → schema_count usable es ≤ 2 * length es + 1 + overs usable Table (map leaf_item es)
+
+-- the numbers of a numbering behind page 1 can number the pages of a tree, and none is the lock page's
+abbrev pub NumbersServe : Type 0
+NumbersServe = (f : File) (start lock total : ℕ) → 2 ≤ start → start + total < 2 ^ 32 - 1
+    → ((k : ℕ) → k < total → number_of start lock k ≤ f.pages)
+    → AreNumbers f (number_of start lock) total × ((k : ℕ) → number_of start lock k ≢ lock)

@@ -1,6 +1,6 @@
 //! What holds of every written tree.
 
-ghost use Rattle.written_trees.specs.Laws.{CellsReadBack, PagesAreTree, PagesSayTheirCells, SchemaIsTree};
+ghost use Rattle.written_trees.specs.Laws.{CellsReadBack, NumbersServe, PagesAreFew, PagesAreTree, PagesSayTheirCells, SchemaIsTree, SchemaPagesAreFew};
 
 /// A written cell is read back, whatever follows it: its numbers, its local payload and its first
 /// overflow page.
@@ -24,4 +24,16 @@ pub fn the_pages_of_a_plan_are_a_tree()
 /// The same of the schema's tree, whose root is page 1.
 pub fn the_pages_of_a_schema_are_a_tree()
     ensures { SchemaIsTree }
+{}
+
+/// A tree has at most two pages for each entry and one more, its overflow pages apart.
+pub fn a_tree_has_few_pages()
+    ensures tree { PagesAreFew }
+    ensures schema { SchemaPagesAreFew }
+{}
+
+/// The page numbers of a numbering behind page 1 can number the pages of a tree, and none of them is the
+/// lock-byte page's.
+pub fn the_numbers_of_a_numbering_serve()
+    ensures { NumbersServe }
 {}

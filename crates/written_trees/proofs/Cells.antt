@@ -66,6 +66,9 @@ all_numbers kind leaf c = record {
   len = length (head_part kind leaf c);
 }
 
+pub not_less : (n m : ℕ) → m ≤ n → nat_lt n m ≡ false
+not_less n m le = grind (arith, nat_tests)
+
 numbers_back : (kind : Kind) (leaf : Bool) (c : Laid) (rest : List ℕ) → c.child < 256 ^ 4 → c.rowid < 2 ^ 64 → length c.body < 2 ^ 64
     → numbers_of kind leaf (head_part kind leaf c ++ rest) ≡ Some (all_numbers kind leaf c)
 unfolding numbers_of numbers_in all_numbers
@@ -78,7 +81,7 @@ numbers_back kind false c rest k r b =
     let apart : head_part kind false c ++ rest ≡ child ++ (number_part kind false c ++ rest) = append_assoc child (number_part kind false c) rest in
     let four : length child ≡ 4 = length-bytes_high_first 4 c.child in
     let long : nat_lt (length (head_part kind false c ++ rest)) 4 ≡ false
-    = not_short (length (head_part kind false c ++ rest)) (omega (arith, ap length apart, length-append child (number_part kind false c ++ rest), four)) in
+    = not_less (length (head_part kind false c ++ rest)) 4 (omega (arith, ap length apart, length-append child (number_part kind false c ++ rest), four)) in
     let number : big_number 4 (head_part kind false c ++ rest) ≡ c.child = ap (big_number 4) apart ∙ big_number-reads_back 4 c.child (number_part kind false c ++ rest) k in
     let len : length child + length (number_part kind false c) ≡ length (head_part kind false c) = omega (arith, length-append child (number_part kind false c)) in
     let f : ℕ → Numbers = λ n. record { child = Some c.child; rowid = rowid_in kind c; total = if has_payload kind false then Some (length c.body) else None; len = n } in
@@ -87,12 +90,6 @@ numbers_back kind false c rest k r b =
     ∙ ap (λ n. numbers_behind kind false (Some c.child) n (child ++ (number_part kind false c ++ rest))) (sym four)
     ∙ behind_back kind false c (Some c.child) child rest r b ∙ ap (λ n. Some (f n)) len in
     rw (long, number) e
-  where
-    not_short : (n : ℕ) → 4 ≤ n → nat_lt n 4 ≡ false
-    not_short n le = grind (arith, nat_tests)
-
-not_less : (n m : ℕ) → m ≤ n → nat_lt n m ≡ false
-not_less n m le = grind (arith, nat_tests)
 
 -- the payload of a cell behind its numbers
 pub record Payload (usable : ℕ) (kind : Kind) (leaf : Bool) (c : Laid) (bytes : List ℕ) : Type 0 where

@@ -3,7 +3,7 @@ use Rattle.std.proofs.Common.{◌≡◌, ◌<◌, ◌≤◌, ℕ, zero, suc, ◌
 use Rattle.std.specs.Prelude.{if◌then◌else◌, Some, replicate}
 use Rattle.std.proofs.Math.Seq.{take-append-add}
 use Rattle.std.proofs.lemmas.Bool.Decides.{nat_tests}
-use Rattle.std.proofs.lemmas.List.{drop_at, length-replicate, take_all, take_at, take-append-drop}
+use Rattle.std.proofs.lemmas.List.{drop_at, length-replicate, nil_from_length, take_all, take_at, take-append-drop}
 use Rattle.byteorder.specs.Endian.{big_bytes, big_number}
 use Rattle.byteorder.specs.Numbers.{big_number-reads_back, length-bytes_high_first}
 use Rattle.page_access.specs.Pages.{File, page_at}
@@ -73,10 +73,6 @@ content_is f q number k last bytes least is =
     let len : length (front ++ zeros) ≡ m = omega (arith, length-append front zeros, length-take m bytes, length-replicate {A = ℕ} (m - length bytes) 0) in
     ap (take m) behind ∙ take_all m (front ++ zeros) (omega (arith, len))
 
-none_from : (xs : List ℕ) → length xs ≡ 0 → xs ≡ []
-none_from [] e = refl
-none_from (x ∷ xs) e = absurd (omega (arith, e))
-
 -- the first page holds all bytes
 first_all : (bytes rest : List ℕ) (m : ℕ) → length bytes ≤ m → take (length bytes) ((take m bytes ++ replicate (m - length bytes) 0) ++ rest) ≡ bytes
 first_all bytes rest m le =
@@ -89,7 +85,7 @@ first_full : (bytes rest : List ℕ) (m : ℕ) → m < length bytes → take (le
     → take (length bytes) ((take m bytes ++ replicate (m - length bytes) 0) ++ rest) ≡ bytes
 first_full bytes rest m lt more =
     let front = take m bytes in
-    let none : replicate {A = ℕ} (m - length bytes) 0 ≡ [] = none_from (replicate (m - length bytes) 0) (omega (arith, length-replicate {A = ℕ} (m - length bytes) 0)) in
+    let none : replicate {A = ℕ} (m - length bytes) 0 ≡ [] = nil_from_length (replicate (m - length bytes) 0) (omega (arith, length-replicate {A = ℕ} (m - length bytes) 0)) in
     let len : length bytes ≡ length front + length (drop m bytes) = omega (arith, length-take m bytes, length-drop m bytes) in
     ap (λ (t : List ℕ). take (length bytes) ((front ++ t) ++ rest)) none
     ∙ ap (λ (t : List ℕ). take (length bytes) (t ++ rest)) (append-nil front)

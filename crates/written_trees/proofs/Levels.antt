@@ -3,6 +3,7 @@ use Rattle.std.proofs.Common.{◌≡◌, ◌≢◌, ◌<◌, ◌≤◌, ℕ, zer
 use Rattle.std.specs.Prelude.{if◌then◌else◌}
 use Rattle.std.specs.List.{AllByRecursion}
 use Rattle.std.proofs.lemmas.Bool.Decides.{nat_tests}
+use Rattle.std.proofs.lemmas.List.{nil_from_length}
 use Rattle.std.proofs.lemmas.List.Sums.{sum_by-cons}
 use Rattle.page_access.specs.Pages.{File}
 use Rattle.page_lists.specs.Lists.{count}
@@ -240,10 +241,6 @@ pub record TopIs (f : File) (number : ℕ → ℕ) (kind : Kind) (r total top : 
   pub fits : needs f.usable kind false line.cells ≤ top
   pub next_is : line.next ≡ from + pages_in f.usable kind sheets
 
-no_cells : (xs : List Item) → length xs ≡ 0 → xs ≡ []
-no_cells [] e = refl
-no_cells (x ∷ xs) e = absurd (omega (arith, e))
-
 pub pages-append : (usable : ℕ) (kind : Kind) (ss ts : List Sheet) → pages_in usable kind (ss ++ ts) ≡ pages_in usable kind ss + pages_in usable kind ts
 pages-append usable kind [] ts = omega arith
 pages-append usable kind (s ∷ ss) ts =
@@ -259,7 +256,7 @@ pub reach_top : (f : File) (number : ℕ → ℕ) (total : ℕ) → AreNumbers f
     → Stand f number line.next (pages_from f.usable kind number line.next (level_sheets f.usable kind top fuel line))
     → TopIs f number kind r total top es line.next (level_sheets f.usable kind top fuel line) (top_line f.usable kind top fuel line)
 reach_top f number total a kind r top es zero d line least most w enough le s =
-    let none : line.cells ≡ [] = no_cells line.cells (omega arith) in
+    let none : line.cells ≡ [] = nil_from_length line.cells (omega arith) in
     record { depth = d; reached = w; fits = omega (arith, ap (needs f.usable kind false) none); next_is = omega arith }
 reach_top f number total a kind r top es (suc fuel) d line least most w enough le s =
     by (nat_le (needs f.usable kind false line.cells) top) refl le s

@@ -20,7 +20,7 @@ use Rattle.tree_writer.specs.Page.{content, header, page_bytes, pointers, slot, 
 use Rattle.tree_writer.proofs.Lens.{length-slot, local_le}
 use Rattle.written_trees.specs.Laws.{PagesSayTheirCells}
 use Rattle.written_trees.specs.Written.{IsPage, IsWritten, laid_node, laid_page, parts_in, said}
-use Rattle.written_trees.proofs.Cells.{cell_reads, payload_there}
+use Rattle.written_trees.proofs.Cells.{cell_reads, not_less, payload_there}
 
 -- ---- cells from one on
 
@@ -264,9 +264,6 @@ unfolding shape_at
 shape_back page head usable kind leaf n type count room =
     let test : nat_lt usable (head + header_len leaf + 2 * n) ≡ false = not_less usable (head + header_len leaf + 2 * n) room in
     rw (count, type, type_back kind leaf, test) refl
-  where
-    not_less : (n m : ℕ) → m ≤ n → nat_lt n m ≡ false
-    not_less n m le = grind (arith, nat_tests)
 
 right_back : (page : List ℕ) (shape : PageShape) (right : ℕ) (more : List ℕ) → right < 256 ^ 4
     → drop (shape.head + 8) page ≡ (if shape.leaf then [] else big_bytes 4 right) ++ more → right_of page shape ≡ (if shape.leaf then None else Some right)

@@ -20,10 +20,10 @@ use Rattle.tree_writer.proofs.Lists.{sum_push}
 use Rattle.tree_writer.proofs.Needs.{index_half, key_half}
 use Rattle.tree_writer.proofs.Rising.{line_len, line_pages}
 use Rattle.tree_writer.proofs.Writing.{length-sheet}
-use Rattle.written_trees.specs.Trees.{AreNumbers, numbers}
+use Rattle.written_trees.specs.Trees.{numbers}
 use Rattle.written_trees.proofs.Forests.{Forest, HaveCells, LevelSays, level_over}
 use Rattle.written_trees.proofs.Numbers.{Stand, count-numbers, number_is_page, numbers_least, stand_apart}
-use Rattle.written_trees.proofs.Sheets.{IsCell, ItemIs, SheetSays, sheet_says}
+use Rattle.written_trees.proofs.Sheets.{AreFew, IsCell, ItemIs, SheetSays, sheet_says}
 
 pub both_all : {X : Type 0} (P : X → Type 0) (xs ys : List X) → AllByRecursion P (xs ++ ys) → AllByRecursion P xs × AllByRecursion P ys
 both_all P [] ys h = (tt, h)
@@ -64,7 +64,7 @@ pages_apart f kind number k (x ∷ ss) ts s =
 
 -- the cells of one page can be made, its children are pages of the tree, and they fit
 pub record GroupIs (f : File) (kind : Kind) (leaf : Bool) (total : ℕ) (items : List Item) (right : ℕ) : Type 0 where
-  pub ok : AllByRecursion (ItemIs (f.pages * f.usable) kind leaf) items
+  pub ok : AllByRecursion (ItemIs kind leaf) items
   pub children : AllByRecursion (λ (x : Item). x.child ≤ total) items
   pub right_le : right ≤ total
   pub fits : needs f.usable kind leaf items ≤ room_in f.usable leaf
@@ -77,21 +77,21 @@ header_small : (leaf : Bool) → header_len leaf ≤ 12
 header_small true = omega arith
 header_small false = omega arith
 
-page_said : (f : File) (number : ℕ → ℕ) (total : ℕ) → AreNumbers f number total → (kind : Kind) (leaf : Bool) (k : ℕ) (items : List Item) (right : ℕ) → 480 ≤ f.usable → f.usable ≤ 65536
+page_said : (f : File) (number : ℕ → ℕ) (total : ℕ) → AreFew f number total → (kind : Kind) (leaf : Bool) (k : ℕ) (items : List Item) (right : ℕ) → 480 ≤ f.usable → f.usable ≤ 65536
     → GroupIs f kind leaf total items right → k + width_of f.usable kind items ≤ total
     → Stand f number k (sheet_pages f.usable kind number k (record { leaf = leaf; items = items; right = right }))
     → SheetSays f number kind (number k) (k + 1) (record { leaf = leaf; items = items; right = right })
 page_said f number total a kind leaf k items right least most g le s =
-    let two = numbers_least number a.rise 2 a.some k in
+    let two : 2 ≤ number k = omega (arith, numbers_least number a.are.rise 2 a.are.some k) in
     let head : head_of (number k) ≡ 0 = no_front (number k) two in
-    let there = number_is_page f number total a k (omega (arith, le)) in
+    let there = number_is_page f number total a.are k (omega (arith, le)) in
     sheet_says f number total a kind (number k) (k + 1) [] (record { leaf = leaf; items = items; right = right }) least most there (sym head)
     (record { ok = g.ok; children = g.children; right = g.right_le; overs_le = omega (arith, le); room = omega (arith, head, g.fits, header_small leaf, least) }) s.0 s.1
   where
     no_front : (p : ℕ) → 2 ≤ p → head_of p ≡ 0
     no_front p two = let test : nat_eq p 1 ≡ false = grind (arith, nat_tests) in rw test refl
 
-pub level_said : (f : File) (number : ℕ → ℕ) (total : ℕ) → AreNumbers f number total → (kind : Kind) (leaf : Bool) (k : ℕ) (firsts : List (List Item × Item)) (last : List Item) (right : ℕ)
+pub level_said : (f : File) (number : ℕ → ℕ) (total : ℕ) → AreFew f number total → (kind : Kind) (leaf : Bool) (k : ℕ) (firsts : List (List Item × Item)) (last : List Item) (right : ℕ)
     → 480 ≤ f.usable → f.usable ≤ 65536 → GroupsAre f kind leaf total firsts last right → k + pages_in f.usable kind (sheets_from leaf firsts last right) ≤ total
     → Stand f number k (pages_from f.usable kind number k (sheets_from leaf firsts last right)) → LevelSays f number kind k (sheets_from leaf firsts last right)
 level_said f number total a kind leaf k [] last right least most g le s =
@@ -142,23 +142,23 @@ half_whole need room [] h = tt
 half_whole need room (x ∷ xs) h = (omega (arith, h.0), half_whole need room xs h.1)
 
 -- any two cells of a line fit a page
-item_half : (usable limit : ℕ) (kind : Kind) (x : Item) → 480 ≤ usable → ItemIs limit kind false x → 2 * need_of usable kind false x ≤ room_in usable false
-item_half usable limit Table x least ok = key_half usable x least (ok.none refl)
-item_half usable limit Index x least ok = index_half usable false x least
+item_half : (usable : ℕ) (kind : Kind) (x : Item) → 480 ≤ usable → ItemIs kind false x → 2 * need_of usable kind false x ≤ room_in usable false
+item_half usable Table x least ok = key_half usable x least (ok.none refl)
+item_half usable Index x least ok = index_half usable false x least
 
-line_half : (usable limit : ℕ) (kind : Kind) (xs : List Item) → 480 ≤ usable → AllByRecursion (ItemIs limit kind false) xs
+line_half : (usable : ℕ) (kind : Kind) (xs : List Item) → 480 ≤ usable → AllByRecursion (ItemIs kind false) xs
     → AllByRecursion (λ (x : Item). 2 * need_of usable kind false x ≤ room_in usable false) xs
-line_half usable limit kind [] least ok = tt
-line_half usable limit kind (x ∷ xs) least ok = (item_half usable limit kind x least ok.0, line_half usable limit kind xs least ok.1)
+line_half usable kind [] least ok = tt
+line_half usable kind (x ∷ xs) least ok = (item_half usable kind x least ok.0, line_half usable kind xs least ok.1)
 
 -- the groups of a row whose cells are good
 groups_are : (f : File) (kind : Kind) (total : ℕ) (firsts : List (List Item × Item)) (last : List Item) (right : ℕ) → right ≤ total
-    → AllByRecursion (ItemIs (f.pages * f.usable) kind false) (flat_from firsts last) → AllByRecursion (λ (x : Item). x.child ≤ total) (flat_from firsts last)
+    → AllByRecursion (ItemIs kind false) (flat_from firsts last) → AllByRecursion (λ (x : Item). x.child ≤ total) (flat_from firsts last)
     → AllByRecursion (λ (g : List Item × Item). needs f.usable kind false g.0 ≤ room_in f.usable false) firsts → needs f.usable kind false last ≤ room_in f.usable false
     → GroupsAre f kind false total firsts last right
 groups_are f kind total [] last right le ok below fits last_fits = record { each = tt; last_is = record { ok = ok; children = below; right_le = le; fits = last_fits } }
 groups_are f kind total (g ∷ gs) last right le ok below fits last_fits =
-    let o = both_all (ItemIs (f.pages * f.usable) kind false) g.0 (g.1 ∷ flat_from gs last) ok in
+    let o = both_all (ItemIs kind false) g.0 (g.1 ∷ flat_from gs last) ok in
     let b = both_all (λ (x : Item). x.child ≤ total) g.0 (g.1 ∷ flat_from gs last) below in
     let more = groups_are f kind total gs last right le o.1.1 b.1.1 fits.1 last_fits in
     record {
@@ -195,10 +195,10 @@ line_below usable kind leaf total k (g ∷ gs) last right le =
 -- a line whose pages are roots of trees of depth d, which hold these entries and have all pages before
 pub record Reached (f : File) (number : ℕ → ℕ) (kind : Kind) (r total : ℕ) (es : List Entry) (d : ℕ) (line : Line) : Type 0 where
   pub forest : Forest f number kind r d line.cells line.right es (λ q. count q (numbers number 0 line.next))
-  pub good : AllByRecursion (ItemIs (f.pages * f.usable) kind false) line.cells
+  pub good : AllByRecursion (ItemIs kind false) line.cells
   pub below : LineBelow line total
 
-pub next_reached : (f : File) (number : ℕ → ℕ) (total : ℕ) → AreNumbers f number total → (kind : Kind) (r : ℕ) (es : List Entry) (d : ℕ) (line : Line) → 480 ≤ f.usable → f.usable ≤ 65536
+pub next_reached : (f : File) (number : ℕ → ℕ) (total : ℕ) → AreFew f number total → (kind : Kind) (r : ℕ) (es : List Entry) (d : ℕ) (line : Line) → 480 ≤ f.usable → f.usable ≤ 65536
     → Reached f number kind r total es d line → line.cells ≢ []
     → line.next + pages_in f.usable kind (sheets_of false (level_cut f.usable kind line) line.right) ≤ total
     → Stand f number line.next (pages_from f.usable kind number line.next (sheets_of false (level_cut f.usable kind line) line.right))
@@ -209,9 +209,9 @@ next_reached f number total a kind r es d line least most w some le s =
     let cut = level_cut f.usable kind line in
     let sheets = sheets_of false cut line.right in
     let flat_is : flat_from cut.firsts cut.last ≡ line.cells = cuts_flat need room [] room line.cells in
-    let half = line_half f.usable (f.pages * f.usable) kind line.cells least w.good in
+    let half = line_half f.usable kind line.cells least w.good in
     let fits = cuts_fit need room [] room line.cells (half_whole need room line.cells half) (omega arith) in
-    let good = subst (AllByRecursion (ItemIs (f.pages * f.usable) kind false)) (sym flat_is) w.good in
+    let good = subst (AllByRecursion (ItemIs kind false)) (sym flat_is) w.good in
     let groups = groups_are f kind total cut.firsts cut.last line.right w.below.right good
     (subst (AllByRecursion (λ (x : Item). x.child ≤ total)) (sym flat_is) w.below.cells) fits.firsts fits.last in
     let says = level_said f number total a kind false line.next cut.firsts cut.last line.right least most groups le s in
@@ -225,7 +225,7 @@ next_reached f number total a kind r es d line least most w some le s =
           ap (λ n. count q (numbers number 0 n)) next ∙ count-numbers number q 0 line.next (pages_in f.usable kind sheets)
           ∙ ap (λ n. count q (numbers number 0 line.next) + count q (numbers number n (pages_in f.usable kind sheets))) place
           ∙ swapped (count q (numbers number 0 line.next)) (count q (numbers number line.next (pages_in f.usable kind sheets))));
-      good = line_all (IsCell (f.pages * f.usable) kind false) f.usable kind line.next cut.firsts cut.last (separators (ItemIs (f.pages * f.usable) kind false) cut.firsts cut.last good);
+      good = line_all (IsCell kind false) f.usable kind line.next cut.firsts cut.last (separators (ItemIs kind false) cut.firsts cut.last good);
       below = line_below f.usable kind false total line.next cut.firsts cut.last line.right le;
     }
   where
@@ -251,7 +251,7 @@ pages-append usable kind (s ∷ ss) ts =
       sum_by-cons (λ (t : Sheet). width_of usable kind t.items) s (ss ++ ts),
     )
 
-pub reach_top : (f : File) (number : ℕ → ℕ) (total : ℕ) → AreNumbers f number total → (kind : Kind) (r top : ℕ) (es : List Entry) (fuel d : ℕ) (line : Line) → 480 ≤ f.usable → f.usable ≤ 65536
+pub reach_top : (f : File) (number : ℕ → ℕ) (total : ℕ) → AreFew f number total → (kind : Kind) (r top : ℕ) (es : List Entry) (fuel d : ℕ) (line : Line) → 480 ≤ f.usable → f.usable ≤ 65536
     → Reached f number kind r total es d line → length line.cells ≤ fuel → line.next + pages_in f.usable kind (level_sheets f.usable kind top fuel line) ≤ total
     → Stand f number line.next (pages_from f.usable kind number line.next (level_sheets f.usable kind top fuel line))
     → TopIs f number kind r total top es line.next (level_sheets f.usable kind top fuel line) (top_line f.usable kind top fuel line)
@@ -287,7 +287,7 @@ reach_top f number total a kind r top es (suc fuel) d line least most w enough l
         let some : line.cells ≢ [] = λ none. absurd (omega (arith, over, ap (needs f.usable kind false) none)) in
         let some_len : 1 ≤ length line.cells = some_length line.cells over in
         let few = cuts_few (need_of f.usable kind false) (room_in f.usable false) [] (room_in f.usable false) line.cells tt
-        (line_half f.usable (f.pages * f.usable) kind line.cells least w.good) (omega arith) (omega (arith, some_len)) in
+        (line_half f.usable kind line.cells least w.good) (omega arith) (omega (arith, some_len)) in
         let len = line_len f.usable kind line.next cut.firsts cut.last in
         let sums = pages-append f.usable kind sheets up in
         let next : above.next ≡ line.next + pages_in f.usable kind sheets = line_pages f.usable kind false line.next cut.firsts cut.last line.right in

@@ -58,25 +58,25 @@ run_once f number rise q k (suc n) some inside =
         rw page (omega (arith, none))
     by false e more = omega (arith, more)
 
-pub numbers_least : (number : ℕ → ℕ) → ((j : ℕ) → number j < number (j + 1)) → (m : ℕ) → m ≤ number 0 → (k : ℕ) → m ≤ number k
-numbers_least number rise m least zero = least
+-- numbers that rise are at least their index further
+pub numbers_least : (number : ℕ → ℕ) → ((j : ℕ) → number j < number (j + 1)) → (m : ℕ) → m ≤ number 0 → (k : ℕ) → k + m ≤ number k
+numbers_least number rise m least zero = omega (arith, least)
 numbers_least number rise m least (suc k) =
     let below = numbers_least number rise m least k in
     let next : number k < number (k + 1) = rise k in
+    let there : k + 1 + m ≤ number (k + 1) = omega arith in
     let place : k + 1 ≡ suc k = omega arith in
-    let there : m ≤ number (k + 1) = omega arith in
-    subst (λ n. m ≤ number n) place there
+    subst (λ n. n + m ≤ number n) place there
 
 -- page numbers of the file stand once
 pub numbers_once : (f : File) (number : ℕ → ℕ) (total : ℕ) → AreNumbers f number total → (q k n : ℕ) → k + n ≤ total
     → count q (numbers number k n) ≤ (if is_page f.pages q then 1 else 0)
 numbers_once f number total a q k n le =
-    run_once f number a.rise q k n (numbers_least number a.rise 1 (omega (arith, a.some)) k) (λ j lt. a.inside j (omega (arith, lt)))
+    run_once f number a.rise q k n (omega (arith, numbers_least number a.rise 2 a.some k)) (λ j lt. a.inside j (omega (arith, lt)))
 
 pub number_is_page : (f : File) (number : ℕ → ℕ) (total : ℕ) → AreNumbers f number total → (k : ℕ) → k < total → is_page f.pages (number k) ≡ true
 number_is_page f number total a k lt =
-    let one = numbers_least number a.rise 1 (omega (arith, a.some)) k in
-    page_there f.pages (number k) one (a.inside k lt)
+    page_there f.pages (number k) (omega (arith, numbers_least number a.rise 2 a.some k)) (a.inside k lt)
 
 -- ---- pages at their numbers
 

@@ -1,10 +1,12 @@
 -- A written page with its overflow pages: it says its cells, each of which holds its entry.
-use Rattle.std.proofs.Common.{◌≡◌, ◌≢◌, ◌<◌, ◌≤◌, ℕ, suc, ◌+◌, ◌-◌, ◌*◌, ◌^◌, ℤ, Bool, true, false, List, [], ◌∷◌, ◌++◌, length, take, drop, map, nat_eq, refl, sym, ap, ◌∙◌, subst, arith, append-nil, length-take, length-drop}
+use Rattle.std.proofs.Common.{◌≡◌, ◌≢◌, ◌<◌, ◌≤◌, ℕ, suc, ◌+◌, ◌-◌, ◌*◌, ◌/◌, ◌^◌, ℤ, Bool, true, false, List, [], ◌∷◌, ◌++◌, length, take, drop, map, nat_eq, refl, sym, ap, ◌∙◌, subst, arith, append-nil, length-take, length-drop}
 use Rattle.std.specs.Prelude.{if◌then◌else◌, Option, Some, None}
 use Rattle.std.specs.List.{AllByRecursion, flat_map}
 use Rattle.std.specs.Option.{option_map}
 use Rattle.std.proofs.lemmas.Bool.Decides.{nat_tests}
 use Rattle.std.proofs.lemmas.List.{take_all, take-append-drop}
+use Rattle.std.proofs.Math.Nat.{lt-div-mul-add}
+use Rattle.std.proofs.lemmas.Nat.{mul-le}
 use Rattle.std.proofs.lemmas.List.Sums.{sum_by-cons}
 use Rattle.byteorder.specs.Endian.{twos_complement}
 use Rattle.page_access.specs.Pages.{File, page_at}
@@ -14,6 +16,7 @@ use Rattle.overflow_chain.specs.Chain.{chain_len, contents}
 use Rattle.overflow_chain.proofs.Turns.{chain_len-zero}
 use Rattle.cell_reader.specs.declared.shapes.Kind.{Kind}
 use Rattle.cell_reader.specs.declared.shapes.Kind.TheVariants.{Table, Index}
+use Rattle.cell_reader.specs.Cell.{most_local}
 use Rattle.cell_reader.specs.Inside.{has_payload}
 use Rattle.cell_reader.specs.Shape.{head_of, header_len}
 use Rattle.tree_forms.specs.Node.{Held, Node, cells_in, child_of, node_of, number_in}
@@ -25,23 +28,51 @@ use Rattle.tree_writer.specs.Layout.{sheet_page}
 use Rattle.tree_writer.specs.Levels.{Sheet, needs}
 use Rattle.tree_writer.proofs.Chaining.{length-chain}
 use Rattle.tree_writer.proofs.Laying.{needs_slots, stack_len}
-use Rattle.tree_writer.proofs.Lens.{local_le}
+use Rattle.tree_writer.proofs.Lens.{local_le, local_most}
 use Rattle.written_trees.specs.Trees.{AreNumbers, HasRowid, Shows, numbers}
 use Rattle.written_trees.specs.Written.{IsPage, IsWritten, laid_node, rowid_in, said}
 use Rattle.written_trees.proofs.Chains.{over_is}
 use Rattle.written_trees.proofs.Numbers.{Stand, numbers_more, stand_apart}
 use Rattle.written_trees.proofs.Pages.{page_says}
 
+-- an entry that can be a cell
+pub record IsEntry (kind : Kind) (e : Entry) : Type 0 where
+  pub rowid : HasRowid kind e.rowid
+  pub some : 1 ≤ length e.bytes
+  pub large : length e.bytes < 2 ^ 64
+
 -- what a cell of such a page is made of: an entry, or a key on an interior page of a table
-pub record IsCell (limit : ℕ) (kind : Kind) (leaf : Bool) (e : Entry) : Type 0 where
+pub record IsCell (kind : Kind) (leaf : Bool) (e : Entry) : Type 0 where
   pub rowid : HasRowid kind e.rowid
   pub some : has_payload kind leaf ≡ true → 1 ≤ length e.bytes
   pub none : has_payload kind leaf ≡ false → e.bytes ≡ []
-  pub most : length e.bytes ≤ limit
   pub large : length e.bytes < 2 ^ 64
 
-abbrev pub ItemIs : ℕ → Kind → Bool → Item → Type 0
-ItemIs limit kind leaf x = IsCell limit kind leaf x.entry
+abbrev pub ItemIs : Kind → Bool → Item → Type 0
+ItemIs kind leaf x = IsCell kind leaf x.entry
+
+-- page numbers of a file that has a page more
+pub record AreFew (f : File) (number : ℕ → ℕ) (total : ℕ) : Type 0 where
+  pub are : AreNumbers f number total
+  pub more : total + 1 ≤ f.pages
+
+local_within : (usable : ℕ) (kind : Kind) → most_local kind usable ≤ usable
+local_within usable Table = omega arith
+local_within usable Index = omega arith
+
+-- a payload whose overflow pages are pages of the file is no longer than the file
+payload_within : (usable : ℕ) (kind : Kind) (e : Entry) (total pages : ℕ) → 480 ≤ usable → over_count usable kind e ≤ total → total + 1 ≤ pages → length e.bytes ≤ pages * usable
+unfolding over_count
+payload_within usable kind e total pages least few more =
+    let kept = kept_of usable kind e.bytes in
+    let n : ℕ = length e.bytes - kept + (usable - 5) in
+    let some : 0 < usable - 4 = omega arith in
+    let full : n < n / (usable - 4) * (usable - 4) + (usable - 4) = lt-div-mul-add some in
+    let low : n / (usable - 4) * (usable - 4) ≤ total * usable = mul-le (n / (usable - 4)) (usable - 4) total usable few (omega arith) in
+    let all : (total + 1) * usable ≤ pages * usable = mul-le (total + 1) usable pages usable more (omega arith) in
+    let step : (total + 1) * usable ≡ total * usable + usable = omega arith in
+    let here : kept ≤ usable = omega (arith, local_most kind usable (length e.bytes) least, local_within usable kind) in
+    omega (arith, full, low, all, step, here)
 
 -- ---- a cell
 
@@ -66,7 +97,7 @@ unfolding over_count
 over_many f kind e least = ap (chain_len f) (sym (length-drop (kept_of f.usable kind e.bytes) e.bytes))
 
 cell_shows : (f : File) (number : ℕ → ℕ) (total : ℕ) → AreNumbers f number total → (kind : Kind) (leaf : Bool) (j : ℕ) (x : Item) → 480 ≤ f.usable
-    → IsCell (f.pages * f.usable) kind leaf x.entry → j + over_count f.usable kind x.entry ≤ total → Stand f number j (chain_pages f.usable kind number j x.entry)
+    → IsCell kind leaf x.entry → j + over_count f.usable kind x.entry ≤ total → Stand f number j (chain_pages f.usable kind number j x.entry)
     → SaysEntry f number j (over_count f.usable kind x.entry) (said f.usable kind leaf (laid_of number j x)) x.entry
 unfolding payload_of
 cell_shows f number total a kind leaf j x least ok le s =
@@ -140,7 +171,7 @@ child_said usable kind true c e = cc
 child_said usable kind false c e = refl
 
 cells_show : (f : File) (number : ℕ → ℕ) (total : ℕ) → AreNumbers f number total → (kind : Kind) (leaf : Bool) (j : ℕ) (xs : List Item) → 480 ≤ f.usable
-    → AllByRecursion (ItemIs (f.pages * f.usable) kind leaf) xs → j + overs f.usable kind xs ≤ total → Stand f number j (chains_from f.usable kind number j xs)
+    → AllByRecursion (ItemIs kind leaf) xs → j + overs f.usable kind xs ≤ total → Stand f number j (chains_from f.usable kind number j xs)
     → SaysEntries f number kind leaf j xs
 cells_show f number total a kind leaf j [] least ok le s = record { cells = tt; chains = refl }
 cells_show f number total a kind leaf j (x ∷ xs) least ok le s =
@@ -158,22 +189,22 @@ cells_show f number total a kind leaf j (x ∷ xs) least ok le s =
     }
 
 -- cells with page numbers can be written
-all_written : (f : File) (number : ℕ → ℕ) (total : ℕ) → AreNumbers f number total → (kind : Kind) (leaf : Bool) (j : ℕ) (xs : List Item)
-    → AllByRecursion (ItemIs (f.pages * f.usable) kind leaf) xs → AllByRecursion (λ (x : Item). x.child ≤ total) xs → j + overs f.usable kind xs ≤ total
+all_written : (f : File) (number : ℕ → ℕ) (total : ℕ) → AreFew f number total → (kind : Kind) (leaf : Bool) (j : ℕ) (xs : List Item) → 480 ≤ f.usable
+    → AllByRecursion (ItemIs kind leaf) xs → AllByRecursion (λ (x : Item). x.child ≤ total) xs → j + overs f.usable kind xs ≤ total
     → AllByRecursion (IsWritten (f.pages * f.usable) kind leaf) (laid_from f.usable kind number j xs)
-all_written f number total a kind leaf j [] ok children le = tt
-all_written f number total a kind leaf j (x ∷ xs) ok children le =
+all_written f number total a kind leaf j [] least ok children le = tt
+all_written f number total a kind leaf j (x ∷ xs) least ok children le =
     let sums = sum_by-cons (item_overs f.usable kind) x xs in (
       record {
-        child = a.small x.child children.0;
-        next = a.small j (omega (arith, le, sums));
+        child = a.are.small x.child children.0;
+        next = a.are.small j (omega (arith, le, sums));
         rowid = raw_small x.entry.rowid;
         some = ok.0.some;
         none = ok.0.none;
-        most = ok.0.most;
+        most = payload_within f.usable kind x.entry total f.pages least (omega (arith, le, sums)) a.more;
         large = ok.0.large;
       },
-      all_written f number total a kind leaf (j + over_count f.usable kind x.entry) xs ok.1 children.1 (omega (arith, le, sums)),
+      all_written f number total a kind leaf (j + over_count f.usable kind x.entry) xs least ok.1 children.1 (omega (arith, le, sums)),
     )
 
 length-laid : (usable : ℕ) (kind : Kind) (number : ℕ → ℕ) (j : ℕ) (xs : List Item) → length (laid_from usable kind number j xs) ≡ length xs
@@ -184,7 +215,7 @@ length-laid usable kind number j (x ∷ xs) = ap suc (length-laid usable kind nu
 
 -- a page that is made of a sheet: its cells can be made, its children are pages of the tree, and they fit
 pub record IsSheet (f : File) (kind : Kind) (head total j : ℕ) (s : Sheet) : Type 0 where
-  pub ok : AllByRecursion (ItemIs (f.pages * f.usable) kind s.leaf) s.items
+  pub ok : AllByRecursion (ItemIs kind s.leaf) s.items
   pub children : AllByRecursion (λ (x : Item). x.child ≤ total) s.items
   pub right : s.right ≤ total
   pub overs_le : j + overs f.usable kind s.items ≤ total
@@ -198,7 +229,7 @@ pub record SheetSays (f : File) (number : ℕ → ℕ) (kind : Kind) (p j : ℕ)
   pub cells : CellsShow f number s.leaf node.cells s.items
   pub own : own_of f p ≡ p ∷ numbers number j (overs f.usable kind s.items)
 
-pub sheet_says : (f : File) (number : ℕ → ℕ) (total : ℕ) → AreNumbers f number total → (kind : Kind) (p j : ℕ) (front : List ℕ) (s : Sheet) → 480 ≤ f.usable → f.usable ≤ 65536
+pub sheet_says : (f : File) (number : ℕ → ℕ) (total : ℕ) → AreFew f number total → (kind : Kind) (p j : ℕ) (front : List ℕ) (s : Sheet) → 480 ≤ f.usable → f.usable ≤ 65536
     → is_page f.pages p ≡ true → length front ≡ head_of p → IsSheet f kind (head_of p) total j s
     → page_at f p ≡ sheet_page front f.usable kind number j s → Stand f number j (chains_from f.usable kind number j s.items) → SheetSays f number kind p j s
 unfolding own_of
@@ -208,12 +239,12 @@ sheet_says f number total a kind p j front s least most there head ok is over =
     let slots = needs_slots f.usable kind s.leaf s.items in
     let page : IsPage (head_of p) f.usable (f.pages * f.usable) kind s.leaf cells (number s.right)
     = record {
-      each = all_written f number total a kind s.leaf j s.items ok.ok ok.children ok.overs_le;
-      child = a.small s.right ok.right;
+      each = all_written f number total a kind s.leaf j s.items least ok.ok ok.children ok.overs_le;
+      child = a.are.small s.right ok.right;
       room = omega (arith, ok.room, stacked, slots, length-laid f.usable kind number j s.items);
     } in
     let node = page_says f p front kind s.leaf cells (number s.right) least most there head page is in
-    let w = cells_show f number total a kind s.leaf j s.items least ok.ok ok.overs_le over in
+    let w = cells_show f number total a.are kind s.leaf j s.items least ok.ok ok.overs_le over in
     record {
       node = laid_node f.usable kind s.leaf cells (number s.right);
       is = record { is = node; kind_is = refl; leaf_is = refl };

@@ -1,5 +1,5 @@
 -- The pages of a plan are a well-formed tree.
-use Rattle.std.proofs.Common.{◌≡◌, ◌≢◌, ◌<◌, ◌≤◌, ℕ, suc, ◌+◌, ◌-◌, ◌*◌, Bool, true, false, List, [], ◌∷◌, ◌++◌, length, map, nat_eq, refl, sym, ap, ◌∙◌, subst, arith, append-nil}
+use Rattle.std.proofs.Common.{◌≡◌, ◌≢◌, ◌<◌, ◌≤◌, ℕ, zero, suc, ◌+◌, ◌-◌, ◌^◌, Bool, true, false, List, [], ◌∷◌, ◌++◌, length, map, nat_eq, sum_by, refl, sym, ap, ◌∙◌, subst, arith, append-nil}
 use Rattle.std.specs.Prelude.{if◌then◌else◌, None}
 use Rattle.std.specs.List.{AllByRecursion}
 use Rattle.std.proofs.lemmas.Bool.Decides.{nat_tests}
@@ -13,19 +13,19 @@ use Rattle.tree_forms.specs.Node.{node_of}
 use Rattle.tree_forms.specs.Payload.{own_of}
 use Rattle.tree_forms.specs.Tree.{items_of, pages_of}
 use Rattle.tree_writer.specs.Cells.{chains_from, need_of, overs}
-use Rattle.tree_writer.specs.Entry.{Entry, Item, RowidsRise, leaf_item}
+use Rattle.tree_writer.specs.Entry.{Entry, HasBytes, Item, RowidsRise, leaf_item, weight}
 use Rattle.tree_writer.specs.Layout.{pages_from, sheet_page}
 use Rattle.tree_writer.specs.Levels.{Sheet, first_room, fits_first, leaf_cut, leaf_line, level_sheets, needs, pages_in, schema_sheets, schema_top, sheets_of, tree_line, tree_sheets}
 use Rattle.tree_writer.specs.Trees.{schema_count, tree_count}
-use Rattle.tree_writer.proofs.Rising.{line_pages}
+use Rattle.tree_writer.proofs.Rising.{line_pages, pages_overs}
 use Rattle.tree_writer.proofs.Writing.{length-pages}
 use Rattle.written_trees.specs.Laws.{PagesAreTree, SchemaIsTree}
-use Rattle.written_trees.specs.Trees.{AllShow, AreNumbers, CanHold, HoldsPages, IsTreeOf, first_then, numbers}
+use Rattle.written_trees.specs.Trees.{AllShow, AreNumbers, CanHold, HasRowid, HoldsPages, IsTreeOf, first_then, numbers}
 use Rattle.written_trees.proofs.Forests.{Forest, TreeAt, entry_of, leaf_tree, page_over}
 use Rattle.written_trees.proofs.Leaves.{InRise, LeavesAre, entries_back, entries_shown, group_is, kept_all, last_order, leaf_items, leaf_reached, leaves_are, order_shown, row_entries, some_bytes}
 use Rattle.written_trees.proofs.Levels.{Reached, pages-append, pages_apart, reach_top}
-use Rattle.written_trees.proofs.Numbers.{Stand, count-numbers, none_below, numbers_once, page_same, page_there, same_number, stand_all, stand_apart}
-use Rattle.written_trees.proofs.Sheets.{ItemIs, SheetSays, sheet_says}
+use Rattle.written_trees.proofs.Numbers.{Stand, count-numbers, none_below, numbers_least, numbers_once, page_same, page_there, same_number, stand_all, stand_apart}
+use Rattle.written_trees.proofs.Sheets.{AreFew, IsEntry, ItemIs, SheetSays, sheet_says}
 
 -- a tree of these entries, and of the keys between them
 tree_made : (f : File) (kind : Kind) (es row : List Entry) (p d : ℕ) (n : ℕ → ℕ) (pages : List ℕ) → TreeAt f kind p d p row n → some_bytes row ≡ es
@@ -40,6 +40,37 @@ tree_made f kind es row p d n pages t entries_are order same once = record {
   once = λ q. omega (arith, t.uses q, same q, once q);
 }
 
+-- ---- what the premises give
+
+entries_each : (kind : Kind) (es : List Entry) → AllByRecursion HasBytes es → sum_by weight es ≤ 2 ^ 35 → AllByRecursion (λ (e : Entry). HasRowid kind e.rowid) es
+    → AllByRecursion (IsEntry kind) es
+entries_each kind [] some load rowids = tt
+entries_each kind (e ∷ es) some load rowids =
+    let sums = sum_by-cons weight e es in
+    (record { rowid = rowids.0; some = some.0; large = omega (arith, load, sums) }, entries_each kind es some.1 (omega (arith, load, sums)) rowids.1)
+
+each_entry : (f : File) (kind : Kind) (number : ℕ → ℕ) (total : ℕ) (es : List Entry) → CanHold f kind number total es → AllByRecursion (IsEntry kind) es
+each_entry f kind number total es can = entries_each kind es can.entries_are.some can.entries_are.load can.rowids
+
+-- a file whose pages have these numbers has page 1 too
+are_few : (f : File) (number : ℕ → ℕ) (total : ℕ) → AreNumbers f number total → (total ≡ 0 → 1 ≤ f.pages) → AreFew f number total
+are_few f number zero a some = record { are = a; more = some refl }
+are_few f number (suc k) a some =
+    let above = numbers_least number a.rise 2 a.some k in
+    let inside : number k ≤ f.pages = a.inside k (omega arith) in
+    record { are = a; more = omega (arith, above, inside) }
+
+tree_some : (usable : ℕ) (kind : Kind) (es : List Entry) → 1 ≤ tree_count usable kind es
+unfolding tree_sheets
+tree_some usable kind es =
+    let cut = leaf_cut usable kind es in
+    let line = leaf_line usable kind es in
+    omega (
+      arith,
+      pages_overs usable kind true cut.firsts cut.last 0,
+      pages-append usable kind (sheets_of true cut 0) (level_sheets usable kind 0 (length line.cells) line),
+    )
+
 -- ---- all levels over the leaves
 
 record TreeTop (f : File) (number : ℕ → ℕ) (kind : Kind) (r total top : ℕ) (es : List Entry) : Type 0 where
@@ -48,7 +79,7 @@ record TreeTop (f : File) (number : ℕ → ℕ) (kind : Kind) (r total top : �
   fits : needs f.usable kind false (tree_line f.usable kind top es).cells ≤ top
   next_is : (tree_line f.usable kind top es).next ≡ pages_in f.usable kind (tree_sheets f.usable kind top es)
 
-tree_top : (f : File) (number : ℕ → ℕ) (total : ℕ) → AreNumbers f number total → (kind : Kind) (r top : ℕ) (es : List Entry) → 480 ≤ f.usable → f.usable ≤ 65536
+tree_top : (f : File) (number : ℕ → ℕ) (total : ℕ) → AreFew f number total → (kind : Kind) (r top : ℕ) (es : List Entry) → 480 ≤ f.usable → f.usable ≤ 65536
     → LeavesAre f kind total es (leaf_cut f.usable kind es).firsts (leaf_cut f.usable kind es).last → (es ≡ [] → r ≡ number (leaf_line f.usable kind es).right)
     → pages_in f.usable kind (tree_sheets f.usable kind top es) ≤ total → Stand f number 0 (pages_from f.usable kind number 0 (tree_sheets f.usable kind top es))
     → TreeTop f number kind r total top es
@@ -81,17 +112,17 @@ bare_root usable kind (x ∷ xs) e = cc
 pub tree_is : PagesAreTree
 tree_is f kind number es can holds =
     let total = tree_count f.usable kind es in
-    let a = can.numbers_are in
+    let a = are_few f number total can.numbers_are (λ none. absurd (omega (arith, none, tree_some f.usable kind es))) in
     let line = tree_line f.usable kind 0 es in
     let r = number line.right in
-    let w = leaves_are f kind total es can.least can.each in
+    let w = leaves_are f kind total es can.least (each_entry f kind number total es can) in
     let t = tree_top f number total a kind r 0 es can.least can.most w (λ none. ap number (bare_root f.usable kind es none)) (omega arith)
     (stand_all f number (pages_from f.usable kind number 0 (tree_sheets f.usable kind 0 es)) holds) in
     let none = none_taken f.usable kind line.cells t.fits in
     let root : TreeAt f kind r t.depth r (row_entries f.usable kind es) (λ q. count q (numbers number 0 line.next))
     = subst (λ (xs : List Item). Forest f number kind r t.depth xs line.right (row_entries f.usable kind es) (λ q. count q (numbers number 0 line.next))) none t.reached.forest in
     tree_made f kind es (row_entries f.usable kind es) r t.depth (λ q. count q (numbers number 0 line.next)) (numbers number 0 total) root w.entries_are
-    (λ table. w.order table (can.rise table)) (λ q. ap (λ n. count q (numbers number 0 n)) t.next_is) (λ q. numbers_once f number total a q 0 total (omega arith))
+    (λ table. w.order table (can.rise table)) (λ q. ap (λ n. count q (numbers number 0 n)) t.next_is) (λ q. numbers_once f number total can.numbers_are q 0 total (omega arith))
 
 -- ---- the schema's tree
 
@@ -109,7 +140,7 @@ first_once f number total q a some = by (nat_eq 1 q) refl (numbers_once f number
 
 -- what is asked of page 1
 record FirstFits (f : File) (total : ℕ) (s : Sheet) : Type 0 where
-  ok : AllByRecursion (ItemIs (f.pages * f.usable) Table s.leaf) s.items
+  ok : AllByRecursion (ItemIs Table s.leaf) s.items
   children : AllByRecursion (λ (x : Item). x.child ≤ total) s.items
   right : s.right ≤ total
   fits : needs f.usable Table s.leaf s.items ≤ first_room f.usable s.leaf
@@ -136,7 +167,7 @@ first_stands f front number s below holds =
       over = subst (λ k. Stand f number k overs_of) place parts.1;
     }
 
-first_says : (f : File) (front : List ℕ) (number : ℕ → ℕ) (total : ℕ) (s : Sheet) (below : List Sheet) → AreNumbers f number total → 480 ≤ f.usable → f.usable ≤ 65536
+first_says : (f : File) (front : List ℕ) (number : ℕ → ℕ) (total : ℕ) (s : Sheet) (below : List Sheet) → AreFew f number total → 480 ≤ f.usable → f.usable ≤ 65536
     → length front ≡ 100 → 1 ≤ f.pages → pages_in f.usable Table below + overs f.usable Table s.items ≤ total → FirstFits f total s → FirstStands f front number s below
     → SheetSays f number Table 1 (pages_in f.usable Table below) s
 first_says f front number total s below a least most len some le w st =
@@ -155,17 +186,17 @@ leaf_first : (f : File) (front : List ℕ) (number : ℕ → ℕ) (total : ℕ) 
 leaf_first f front number total es can len some fits total_is st =
     let xs = map leaf_item es in
     let sheet : Sheet = record { leaf = true; items = xs; right = 0 } in
-    let items = leaf_items (f.pages * f.usable) Table es can.each in
+    let items = leaf_items Table es (each_entry f Table number total es can) in
     let g = group_is f Table total xs 0 items refl (omega (arith, fits)) in
-    let says = first_says f front number total sheet [] can.numbers_are can.least can.most len some (omega (arith, total_is))
+    let says = first_says f front number total sheet [] (are_few f number total can.numbers_are (λ none. some)) can.least can.most len some (omega (arith, total_is))
     (record { ok = g.ok; children = g.children; right = omega arith; fits = fits }) st in
     let n : ℕ → ℕ = λ q. count q (1 ∷ numbers number 0 (overs f.usable Table xs)) in
     let t = leaf_tree f number Table 1 1 0 xs 0 n says (λ other. absurd (other refl)) (λ q. refl) in
     let back = entries_back es in
     let whole : some_bytes (map entry_of xs) ≡ es
-    = ap some_bytes (sym (append-nil (map entry_of xs))) ∙ kept_all (f.pages * f.usable) Table xs [] items ∙ append-nil (map entry_of xs) ∙ back in
+    = ap some_bytes (sym (append-nil (map entry_of xs))) ∙ kept_all Table xs [] items ∙ append-nil (map entry_of xs) ∙ back in
     tree_made f Table es (map entry_of xs) 1 0 n (1 ∷ numbers number 0 total) t whole
-    (λ table. last_order (f.pages * f.usable) None xs items (subst (RowidsRise None) (sym back) (can.rise table)))
+    (λ table. last_order None xs items (subst (RowidsRise None) (sym back) (can.rise table)))
     (λ q. ap (λ m. count q (1 ∷ numbers number 0 m)) (sym total_is)) (λ q. first_once f number total q can.numbers_are some)
 
 -- page 1 over other pages
@@ -180,9 +211,9 @@ levels_first f front number total es can len some full total_is st =
     let sheet : Sheet = record { leaf = false; items = line.cells; right = line.right } in
     let j = pages_in f.usable Table below in
     let m = overs f.usable Table line.cells in
-    let w = leaves_are f Table total es can.least can.each in
-    let t = tree_top f number total can.numbers_are Table 1 top es can.least can.most w (λ none. absurd (full none)) (omega (arith, total_is)) st.below_stand in
-    let says = first_says f front number total sheet below can.numbers_are can.least can.most len some (omega (arith, total_is))
+    let w = leaves_are f Table total es can.least (each_entry f Table number total es can) in
+    let t = tree_top f number total (are_few f number total can.numbers_are (λ none. some)) Table 1 top es can.least can.most w (λ none. absurd (full none)) (omega (arith, total_is)) st.below_stand in
+    let says = first_says f front number total sheet below (are_few f number total can.numbers_are (λ none. some)) can.least can.most len some (omega (arith, total_is))
     (record { ok = t.reached.good; children = t.reached.below.cells; right = t.reached.below.right; fits = t.fits }) st in
     let n : ℕ → ℕ = λ q. count q (numbers number 0 line.next) in
     let n' : ℕ → ℕ = λ q. count q (1 ∷ numbers number j m) + n q in

@@ -1,5 +1,5 @@
 -- A tree of entries in a file (docs/FORMAT.md, "Trees").
-use Rattle.std.specs.Prelude.{◌≡◌, ◌≤◌, ◌<◌, ℕ, zero, suc, ◌+◌, ◌*◌, ◌^◌, ℤ, if◌then◌else◌, Option, Some, None, List, [], ◌∷◌, length, slice_index_or}
+use Rattle.std.specs.Prelude.{◌≡◌, ◌≤◌, ◌<◌, ℕ, zero, suc, ◌+◌, ◌^◌, ℤ, if◌then◌else◌, Option, Some, None, List, [], ◌∷◌, length, slice_index_or}
 use Rattle.std.specs.List.{AllByRecursion}
 use Rattle.page_access.specs.Pages.{File, page_at}
 use Rattle.page_lists.specs.Lists.{count}
@@ -10,7 +10,7 @@ use Rattle.cell_reader.specs.declared.shapes.Kind.TheVariants.{Table, Index}
 use Rattle.tree_forms.specs.Node.{Held, node_of}
 use Rattle.tree_forms.specs.Payload.{HasChain, own_of, payload_of}
 use Rattle.tree_forms.specs.Tree.{InOrder, Tree, entries}
-use Rattle.tree_writer.specs.Entry.{Entry, RowidsRise}
+use Rattle.tree_writer.specs.Entry.{AreEntries, Entry, RowidsRise}
 
 -- n page numbers from index k on
 abbrev pub numbers : (ℕ → ℕ) → ℕ → ℕ → List ℕ
@@ -35,13 +35,6 @@ HasRowid Table (Some z) = steps z < 2 ^ 63
 HasRowid Table None = ⊥
 HasRowid Index (Some z) = ⊥
 HasRowid Index None = Unit {0}
-
--- an entry of a tree in a file of at most `limit` bytes
-pub record IsEntry (limit : ℕ) (kind : Kind) (e : Entry) : Type 0 where
-  pub rowid : HasRowid kind e.rowid
-  pub some : 1 ≤ length e.bytes
-  pub most : length e.bytes ≤ limit
-  pub large : length e.bytes < 2 ^ 64
 
 -- a cell of the file holds an entry: its rowid, and its payload with all overflow pages
 pub record Shows (f : File) (h : Held) (e : Entry) : Type 0 where
@@ -68,12 +61,13 @@ pub record IsTreeOf (f : File) (kind : Kind) (root : ℕ) (es : List Entry) (pag
   pub same : (q : ℕ) → count q used ≡ count q pages
   pub once : (q : ℕ) → count q used ≤ (if is_page f.pages q then 1 else 0)
 
--- the entries of a tree, and page numbers of a file for its pages
+-- entries that a tree can be made of, and page numbers of a file for its pages
 pub record CanHold (f : File) (kind : Kind) (number : ℕ → ℕ) (total : ℕ) (es : List Entry) : Type 0 where
   pub least : 480 ≤ f.usable
   pub most : f.usable ≤ 65536
   pub numbers_are : AreNumbers f number total
-  pub each : AllByRecursion (IsEntry (f.pages * f.usable) kind) es
+  pub entries_are : AreEntries es
+  pub rowids : AllByRecursion (λ (e : Entry). HasRowid kind e.rowid) es
   pub rise : kind ≡ Table → RowidsRise None es
 
 -- page 1, and then other pages

@@ -3,21 +3,22 @@ use Rattle.std.proofs.Common.{◌≡◌, ◌<◌, ◌≤◌, ℕ, zero, suc, ◌
 use Rattle.std.specs.Prelude.{if◌then◌else◌}
 use Rattle.std.specs.List.{AllByRecursion}
 use Rattle.std.proofs.lemmas.Bool.Decides.{nat_tests}
-use Rattle.std.proofs.lemmas.List.{length-map}
+use Rattle.std.proofs.lemmas.List.{length-map, nil_from_length}
 use Rattle.cell_reader.specs.declared.shapes.Kind.{Kind}
 use Rattle.cell_reader.specs.declared.shapes.Kind.TheVariants.{Table, Index}
 use Rattle.tree_writer.specs.Cells.{need_of, overs, width_of}
 use Rattle.tree_writer.specs.Entry.{Entry, Item, key_item, leaf_item, no_item}
 use Rattle.tree_writer.specs.Groups.{flat_from, joined_from}
 use Rattle.tree_writer.specs.Levels.{Line, Sheet, first_room, fits_first, leaf_cut, leaf_line, level_cut, level_sheets, line_above, line_from, needs, pages_in, room_in, schema_sheets, schema_top, sheets_of, top_line, tree_line, tree_sheets}
+use Rattle.tree_writer.specs.Planned.{SheetFits}
 use Rattle.tree_writer.specs.Trees.{schema_count}
-use Rattle.tree_writer.proofs.Cuts.{Keyed, cuts_few, cuts_flat, leaves_joined, leaves_keyed}
+use Rattle.tree_writer.proofs.Cuts.{Keyed, cuts_few, cuts_fit, cuts_flat, leaves_joined, leaves_keyed}
 use Rattle.tree_writer.proofs.Needs.{index_half, key_half, leaf_fits}
-use Rattle.tree_writer.proofs.Raising.{leaf_level}
+use Rattle.tree_writer.proofs.Raising.{all_append, leaf_level, sheets_fit}
 use Rattle.tree_writer.proofs.Rising.{line_len, line_overs, pages_overs}
 use Rattle.written_trees.specs.Laws.{PagesAreFew, SchemaPagesAreFew}
 use Rattle.written_trees.proofs.Leaves.{table_last}
-use Rattle.written_trees.proofs.Levels.{each_is, line_all, pages-append, separators}
+use Rattle.written_trees.proofs.Levels.{each_is, half_whole, line_all, pages-append, separators}
 
 -- two cells like this one fit an interior page
 abbrev Half : ℕ → Kind → Item → Type 0
@@ -63,19 +64,26 @@ leaf_half usable Table es least =
     let t = table_leaves usable es least in keys_half usable 0 (leaf_cut usable Table es).firsts (leaf_cut usable Table es).last least t.keyed
 leaf_half usable Index es least = each_is (Half usable Index) (λ x. index_half usable false x least) (leaf_line usable Index es).cells
 
--- the levels over a line have no more pages than the line has cells
-levels_few : (usable : ℕ) (kind : Kind) (top fuel : ℕ) (line : Line) → 480 ≤ usable → AllByRecursion (Half usable kind) line.cells
-    → pages_in usable kind (level_sheets usable kind top fuel line) + overs usable kind (top_line usable kind top fuel line).cells ≤ length line.cells + overs usable kind line.cells
-levels_few usable kind top zero line least half = omega arith
-levels_few usable kind top (suc fuel) line least half =
-    by (nat_le (needs usable kind false line.cells) top) refl (levels_few usable kind top fuel (line_above usable kind line) least (half_above usable kind line half))
+-- levels over a line: they have no more pages than the line has cells, each page has room for its cells, and
+-- so has what is behind the last
+pub record LevelsAre (usable : ℕ) (kind : Kind) (top : ℕ) (line : Line) (sheets : List Sheet) (target : Line) : Type 0 where
+  pub few : pages_in usable kind sheets + overs usable kind target.cells ≤ length line.cells + overs usable kind line.cells
+  pub fits : AllByRecursion (SheetFits usable kind) sheets
+  pub last : needs usable kind false target.cells ≤ top
+
+levels_are : (usable : ℕ) (kind : Kind) (top fuel : ℕ) (line : Line) → 480 ≤ usable → AllByRecursion (Half usable kind) line.cells → length line.cells ≤ fuel
+    → LevelsAre usable kind top line (level_sheets usable kind top fuel line) (top_line usable kind top fuel line)
+levels_are usable kind top zero line least half enough =
+    let none : line.cells ≡ [] = nil_from_length line.cells (omega arith) in
+    record { few = omega arith; fits = tt; last = omega (arith, ap (needs usable kind false) none) }
+levels_are usable kind top (suc fuel) line least half enough =
+    by (nat_le (needs usable kind false line.cells) top) refl (λ le. levels_are usable kind top fuel (line_above usable kind line) least (half_above usable kind line half) le)
   where
     by : (b : Bool) → nat_le (needs usable kind false line.cells) top ≡ b
-        → pages_in usable kind (level_sheets usable kind top fuel (line_above usable kind line)) + overs usable kind (top_line usable kind top fuel (line_above usable kind line)).cells
-        ≤ length (line_above usable kind line).cells + overs usable kind (line_above usable kind line).cells
-        → pages_in usable kind (if b then [] else sheets_of false (level_cut usable kind line) line.right ++ level_sheets usable kind top fuel (line_above usable kind line))
-        + overs usable kind (if b then line else top_line usable kind top fuel (line_above usable kind line)).cells ≤ length line.cells + overs usable kind line.cells
-    by true e more = omega arith
+        → (length (line_above usable kind line).cells ≤ fuel → LevelsAre usable kind top (line_above usable kind line) (level_sheets usable kind top fuel (line_above usable kind line)) (top_line usable kind top fuel (line_above usable kind line)))
+        → LevelsAre usable kind top line (if b then [] else sheets_of false (level_cut usable kind line) line.right ++ level_sheets usable kind top fuel (line_above usable kind line))
+        (if b then line else top_line usable kind top fuel (line_above usable kind line))
+    by true e more = let fits : needs usable kind false line.cells ≤ top = grind (arith, nat_tests) in record { few = omega arith; fits = tt; last = fits }
     by false e more =
         let over : top < needs usable kind false line.cells = grind (arith, nat_tests) in
         let cut = level_cut usable kind line in
@@ -83,20 +91,38 @@ levels_few usable kind top (suc fuel) line least half =
         let need = need_of usable kind false in
         let few = cuts_few need room [] room line.cells tt half (omega arith) (omega (arith, some line.cells over)) in
         let flat_is : flat_from cut.firsts cut.last ≡ line.cells = cuts_flat need room [] room line.cells in
-        omega (
-          arith,
-          more,
-          few,
-          line_len usable kind line.next cut.firsts cut.last,
-          line_overs usable kind line.next cut.firsts cut.last,
-          ap (overs usable kind) flat_is,
-          pages_overs usable kind false cut.firsts cut.last line.right,
-          pages-append usable kind (sheets_of false cut line.right) (level_sheets usable kind top fuel (line_above usable kind line)),
-        )
+        let len = line_len usable kind line.next cut.firsts cut.last in
+        let up = more (omega (arith, len, few, enough)) in
+        let fit = cuts_fit need room [] room line.cells (half_whole need room line.cells half) (omega arith) in
+        record {
+          few = omega (
+            arith,
+            up.few,
+            few,
+            len,
+            line_overs usable kind line.next cut.firsts cut.last,
+            ap (overs usable kind) flat_is,
+            pages_overs usable kind false cut.firsts cut.last line.right,
+            pages-append usable kind (sheets_of false cut line.right) (level_sheets usable kind top fuel (line_above usable kind line)),
+          );
+          fits = all_append (SheetFits usable kind) (sheets_of false cut line.right) (level_sheets usable kind top fuel (line_above usable kind line))
+              (sheets_fit usable kind false cut.firsts cut.last line.right fit.firsts fit.last) up.fits;
+          last = up.last;
+        }
       where
         some : (xs : List Item) → top < needs usable kind false xs → 1 ≤ length xs
         some [] lt = absurd (omega arith)
         some (x ∷ xs) lt = omega arith
+
+-- all pages of a tree
+pub tree_fits : (usable : ℕ) (kind : Kind) (top : ℕ) (es : List Entry) → 480 ≤ usable
+    → AllByRecursion (SheetFits usable kind) (tree_sheets usable kind top es) × (needs usable kind false (tree_line usable kind top es).cells ≤ top)
+unfolding tree_sheets tree_line
+tree_fits usable kind top es least =
+    let cut = leaf_cut usable kind es in
+    let line = leaf_line usable kind es in
+    let l = levels_are usable kind top (length line.cells) line least (leaf_half usable kind es least) (omega arith) in
+    (all_append (SheetFits usable kind) (sheets_of true cut 0) (level_sheets usable kind top (length line.cells) line) (leaf_level usable kind es least).fits l.fits, l.last)
 
 all_few : (usable : ℕ) (kind : Kind) (top : ℕ) (es : List Entry) → 480 ≤ usable
     → pages_in usable kind (tree_sheets usable kind top es) + overs usable kind (tree_line usable kind top es).cells
@@ -108,7 +134,7 @@ all_few usable kind top es least =
     let l = leaf_level usable kind es least in
     omega (
       arith,
-      levels_few usable kind top (length line.cells) line least (leaf_half usable kind es least),
+      (levels_are usable kind top (length line.cells) line least (leaf_half usable kind es least) (omega arith)).few,
       line_len usable kind 0 cut.firsts cut.last,
       l.overs_are,
       pages_overs usable kind true cut.firsts cut.last 0,

@@ -73,7 +73,7 @@ pub record GroupsAre (f : File) (kind : Kind) (leaf : Bool) (total : ℕ) (first
   pub each : AllByRecursion (λ (g : List Item × Item). GroupIs f kind leaf total g.0 g.1.child) firsts
   pub last_is : GroupIs f kind leaf total last right
 
-header_small : (leaf : Bool) → header_len leaf ≤ 12
+pub header_small : (leaf : Bool) → header_len leaf ≤ 12
 header_small true = omega arith
 header_small false = omega arith
 
@@ -137,7 +137,7 @@ cuts_some need room held left (x ∷ xs) hs half used some =
     some_past held x xs (cuts need room [] room xs) (two_held need room left held x hs half.0 used lt)
     (λ s. cuts_some need room [] room xs tt half.1 (omega arith) s))
 
-half_whole : (need : Item → ℕ) (room : ℕ) (xs : List Item) → AllByRecursion (λ x. 2 * need x ≤ room) xs → AllByRecursion (λ x. need x ≤ room) xs
+pub half_whole : (need : Item → ℕ) (room : ℕ) (xs : List Item) → AllByRecursion (λ x. 2 * need x ≤ room) xs → AllByRecursion (λ x. need x ≤ room) xs
 half_whole need room [] h = tt
 half_whole need room (x ∷ xs) h = (omega (arith, h.0), half_whole need room xs h.1)
 

@@ -9,3 +9,4 @@ pub mod Leaves
 pub mod Whole
 pub mod Few
 pub mod Serving
+pub mod Sized

@@ -182,15 +182,15 @@ length-pointers end [] = refl
 length-pointers end (size ∷ sizes) =
     omega (arith, length-append (big_bytes 2 (end - size)) (pointers (end - size) sizes), length-bytes_high_first 2 (end - size), length-pointers (end - size) sizes)
 
-record Stands (page : List ℕ) (head type usable fixed : ℕ) (cells : List (List ℕ)) (right : List ℕ) : Type 0 where
-  long : length page ≡ usable
+pub record Stands (page : List ℕ) (head type usable fixed : ℕ) (cells : List (List ℕ)) (right : List ℕ) : Type 0 where
+  pub long : length page ≡ usable
   type_is : slice_index page head ≡ type
   count : u16_at page (head + 3) ≡ length cells
   more : List ℕ
   right_is : drop (head + 8) page ≡ right ++ more
   falls : Falls page cells usable (head + fixed) (head + fixed + 2 * length cells)
 
-stands : (front : List ℕ) (type usable fixed : ℕ) (cells : List (List ℕ)) (right : List ℕ) → usable ≤ 65536 → fixed ≡ 8 + length right
+pub stands : (front : List ℕ) (type usable fixed : ℕ) (cells : List (List ℕ)) (right : List ℕ) → usable ≤ 65536 → fixed ≡ 8 + length right
     → length front + fixed + 2 * length cells + length (stack cells) ≤ usable → Stands (page_bytes front type usable cells right) (length front) type usable fixed cells right
 unfolding page_bytes
 stands front type usable fixed cells right most f room =
@@ -274,7 +274,7 @@ right_back page shape right more small is = by shape.leaf is
     by true e = refl
     by false e = ap Some (ap (big_number 4) e ∙ big_number-reads_back 4 right more small)
 
-length-right : (leaf : Bool) (right : ℕ) → header_len leaf ≡ 8 + length (if leaf then [] else big_bytes 4 right)
+pub length-right : (leaf : Bool) (right : ℕ) → header_len leaf ≡ 8 + length (if leaf then [] else big_bytes 4 right)
 length-right true right = refl
 length-right false right = omega (arith, length-bytes_high_first 4 right)
 

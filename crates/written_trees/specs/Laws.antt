@@ -1,5 +1,6 @@
 -- Written cells, pages and trees are read back (docs/FORMAT.md, "Layout of a written file").
 use Rattle.std.specs.Prelude.{◌≡◌, ◌≢◌, ◌≤◌, ◌<◌, ℕ, ◌^◌, ◌+◌, ◌-◌, ◌*◌, Bool, true, Some, Ok, List, ◌∷◌, ◌++◌, length, map}
+use Rattle.std.specs.List.{AllByRecursion}
 use Rattle.page_access.specs.Pages.{File, page_at}
 use Rattle.page_lists.specs.Table.{is_page}
 use Rattle.cell_reader.specs.declared.shapes.Kind.{Kind}
@@ -55,3 +56,12 @@ abbrev pub NumbersServe : Type 0
 NumbersServe = (f : File) (start lock total : ℕ) → 2 ≤ start → start + total < 2 ^ 32 - 1
     → ((k : ℕ) → k < total → number_of start lock k ≤ f.pages)
     → AreNumbers f (number_of start lock) total × ((k : ℕ) → number_of start lock k ≢ lock)
+
+-- each page of a written tree has as many bytes as are usable
+abbrev pub PagesAreFull : Type 0
+PagesAreFull = (usable : ℕ) (kind : Kind) (number : ℕ → ℕ) (es : List Entry) → 480 ≤ usable → usable ≤ 65536
+    → AllByRecursion (λ (page : List ℕ). length page ≡ usable) (tree_pages usable kind number es)
+
+abbrev pub SchemaPagesAreFull : Type 0
+SchemaPagesAreFull = (front : List ℕ) (usable : ℕ) (number : ℕ → ℕ) (es : List Entry) → length front ≡ 100 → 480 ≤ usable → usable ≤ 65536
+    → AllByRecursion (λ (page : List ℕ). length page ≡ usable) (schema_pages front usable number es)

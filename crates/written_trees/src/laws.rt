@@ -1,6 +1,6 @@
 //! What holds of every written tree.
 
-ghost use Rattle.written_trees.specs.Laws.{CellsReadBack, NumbersServe, PagesAreFew, PagesAreTree, PagesSayTheirCells, SchemaIsTree, SchemaPagesAreFew};
+ghost use Rattle.written_trees.specs.Laws.{CellsReadBack, NumbersServe, PagesAreFew, PagesAreFull, PagesAreTree, PagesSayTheirCells, SchemaIsTree, SchemaPagesAreFew, SchemaPagesAreFull};
 
 /// A written cell is read back, whatever follows it: its numbers, its local payload and its first
 /// overflow page.
@@ -36,4 +36,11 @@ pub fn a_tree_has_few_pages()
 /// lock-byte page's.
 pub fn the_numbers_of_a_numbering_serve()
     ensures { NumbersServe }
+{}
+
+/// Each page of a tree, overflow pages too, has as many bytes as are usable, so that the pages of a file
+/// stand one behind another.
+pub fn the_pages_of_a_tree_are_full()
+    ensures tree { PagesAreFull }
+    ensures schema { SchemaPagesAreFull }
 {}

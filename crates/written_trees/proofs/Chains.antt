@@ -12,7 +12,7 @@ use Rattle.overflow_chain.specs.Laws.{reached}
 use Rattle.overflow_chain.proofs.Turns.{chain_len-step}
 use Rattle.tree_forms.specs.Payload.{ChainFrom, chain_from, follow}
 use Rattle.tree_writer.specs.Cells.{over_page, over_pages}
-use Rattle.written_trees.specs.Trees.{AreNumbers, numbers}
+use Rattle.written_trees.specs.Trees.{ArePageNumbers, numbers}
 use Rattle.written_trees.proofs.Numbers.{Stand, numbers_once}
 
 -- pages from index k on name one another, and the last one names none
@@ -28,7 +28,7 @@ names f q usable number k last bytes small is =
     ap (big_number 4) is
     ∙ big_number-reads_back 4 (if last then 0 else number (k + 1)) (take (usable - 4) bytes ++ replicate (usable - 4 - length bytes) 0) small
 
-named : (f : File) (number : ℕ → ℕ) (total : ℕ) → AreNumbers f number total → (usable k n : ℕ) (bytes : List ℕ) → k + n ≤ total
+named : (f : File) (number : ℕ → ℕ) (total : ℕ) → ArePageNumbers f number total → (usable k n : ℕ) (bytes : List ℕ) → k + n ≤ total
     → Stand f number k (over_pages usable number k n bytes) → Named (next_page f) number k n
 named f number total a usable k zero bytes le s = tt
 named f number total a usable k (suc zero) bytes le s = names f (number k) usable number k true bytes (omega arith) s.0
@@ -132,7 +132,7 @@ pub record IsOver (f : File) (number : ℕ → ℕ) (k n : ℕ) (bytes : List �
   pub holds : take (length bytes) (contents f (numbers number k n)) ≡ bytes
   pub chain : ChainFrom f (length bytes) (Some (number k))
 
-pub over_is : (f : File) (number : ℕ → ℕ) (total : ℕ) → AreNumbers f number total → (k n : ℕ) (bytes : List ℕ) → 480 ≤ f.usable → k + n ≤ total → 1 ≤ length bytes
+pub over_is : (f : File) (number : ℕ → ℕ) (total : ℕ) → ArePageNumbers f number total → (k n : ℕ) (bytes : List ℕ) → 480 ≤ f.usable → k + n ≤ total → 1 ≤ length bytes
     → n ≡ chain_len f (length bytes) → Stand f number k (over_pages f.usable number k n bytes) → IsOver f number k n bytes
 over_is f number total a k n bytes least le some many s =
     let next = next_page f in

@@ -14,7 +14,7 @@ use Rattle.tree_writer.specs.Cells.{overs, width_of}
 use Rattle.tree_writer.specs.Entry.{Entry, Item}
 use Rattle.tree_writer.specs.Groups.{flat_from}
 use Rattle.tree_writer.specs.Levels.{Sheet, line_from, pages_in, sheets_from}
-use Rattle.written_trees.specs.Trees.{AllShow, Shows, numbers}
+use Rattle.written_trees.specs.Trees.{HoldEntries, HoldsEntry, numbers}
 use Rattle.written_trees.proofs.Numbers.{count-numbers}
 use Rattle.written_trees.proofs.Sheets.{CellsShow, SheetSays}
 
@@ -23,17 +23,17 @@ entry_of x = x.entry
 
 -- ---- cells and entries, one by one
 
-bare_shows : (f : File) (h : Held) (e : Entry) → Shows f h e → Shows f (bare h) e
+bare_shows : (f : File) (h : Held) (e : Entry) → HoldsEntry f h e → HoldsEntry f (bare h) e
 unfolding payload_of
 bare_shows f h e s = record { rowid = s.rowid; total = s.total; payload = s.payload; chain = s.chain }
 
-pub all_show-append : (f : File) (hs ks : List Held) (es ds : List Entry) → AllShow f hs es → AllShow f ks ds → AllShow f (hs ++ ks) (es ++ ds)
+pub all_show-append : (f : File) (hs ks : List Held) (es ds : List Entry) → HoldEntries f hs es → HoldEntries f ks ds → HoldEntries f (hs ++ ks) (es ++ ds)
 all_show-append f [] ks [] ds a b = b
 all_show-append f [] ks (e ∷ es) ds a b = absurd a
 all_show-append f (h ∷ hs) ks [] ds a b = absurd a
 all_show-append f (h ∷ hs) ks (e ∷ es) ds a b = (a.0, all_show-append f hs ks es ds a.1 b)
 
-leaf_show : (f : File) (number : ℕ → ℕ) (leaf : Bool) (hs : List Held) (xs : List Item) → CellsShow f number leaf hs xs → AllShow f hs (map entry_of xs)
+leaf_show : (f : File) (number : ℕ → ℕ) (leaf : Bool) (hs : List Held) (xs : List Item) → CellsShow f number leaf hs xs → HoldEntries f hs (map entry_of xs)
 leaf_show f number leaf [] [] w = tt
 leaf_show f number leaf [] (x ∷ xs) w = absurd w
 leaf_show f number leaf (h ∷ hs) [] w = absurd w
@@ -51,7 +51,7 @@ some_cells f number leaf (h ∷ hs) (x ∷ xs) w some = λ e. cc
 -- pages n q times
 pub record TreeAt (f : File) (kind : Kind) (r d p : ℕ) (es : List Entry) (n : ℕ → ℕ) : Type 0 where
   pub is_tree : IsTree (node_of f) kind r d p
-  pub shows : AllShow f (items_of (node_of f) d p) es
+  pub shows : HoldEntries f (items_of (node_of f) d p) es
   pub uses : (q : ℕ) → count q (pages_of (node_of f) (own_of f) d p) ≡ n q
 
 -- what stands before an item, and what stands behind it
@@ -90,7 +90,7 @@ forest_split f number kind r d (x ∷ g) y rest right es n b =
 -- a row under a page
 record RowIs (f : File) (kind : Kind) (r d : ℕ) (hs : List Held) (right : ℕ) (es : List Entry) (n : ℕ → ℕ) : Type 0 where
   row : Row (IsTree (node_of f) kind r d) hs right
-  shows : AllShow f (row_items (items_of (node_of f) d) hs right) es
+  shows : HoldEntries f (row_items (items_of (node_of f) d) hs right) es
   uses : (q : ℕ) → count q (row_pages (pages_of (node_of f) (own_of f) d) hs right) ≡ n q
 
 row_over : (f : File) (number : ℕ → ℕ) (kind : Kind) (r d : ℕ) (hs : List Held) (xs : List Item) (p right : ℕ) (es : List Entry) (n : ℕ → ℕ)
@@ -105,7 +105,7 @@ row_over f number kind r d (h ∷ hs) (x ∷ xs) p right es n w e b =
     let more = row_over f number kind r d hs xs p right b.rest b.m' w.1 e b.forest in
     record {
       row = (first.is_tree, more.row);
-      shows = subst (AllShow f (items_of (node_of f) d (child_of h) ++ (bare h ∷ row_items (items_of (node_of f) d) hs p))) (sym b.es_is)
+      shows = subst (HoldEntries f (items_of (node_of f) d (child_of h) ++ (bare h ∷ row_items (items_of (node_of f) d) hs p))) (sym b.es_is)
           (all_show-append f (items_of (node_of f) d (child_of h)) (bare h ∷ row_items (items_of (node_of f) d) hs p) b.left (x.entry ∷ b.rest) first.shows
           (bare_shows f h x.entry w.0.1, more.shows));
       uses = λ q.
@@ -130,7 +130,7 @@ page_over f number kind r d p j items right es n n' s some forest uses =
     ∙ ap (λ m. own_of f p ++ row_pages (pages_of (node_of f) (own_of f) d) s.node.cells m) last ∙ ap (λ (t : List ℕ). t ++ pages) s.own in
     record {
       is_tree = (s.node, s.is, (λ other. some_cells f number false s.node.cells items s.cells (some other)), w.row);
-      shows = subst (λ (t : List Held). AllShow f t es) (sym items_are) w.shows;
+      shows = subst (λ (t : List Held). HoldEntries f t es) (sym items_are) w.shows;
       uses = λ q. omega (arith, ap (count q) pages_are, count-append q (p ∷ numbers number j (overs f.usable kind items)) pages, w.uses q, uses q);
     }
 
@@ -142,7 +142,7 @@ leaf_tree f number kind r p j items right n s some uses =
     let cells : cells_in (node_of f p) ≡ s.node.cells = ap cells_in s.is.is in
     record {
       is_tree = (s.node, s.is, λ other. some_cells f number true s.node.cells items s.cells (some other));
-      shows = subst (λ (t : List Held). AllShow f t (map entry_of items)) (sym cells) (leaf_show f number true s.node.cells items s.cells);
+      shows = subst (λ (t : List Held). HoldEntries f t (map entry_of items)) (sym cells) (leaf_show f number true s.node.cells items s.cells);
       uses = λ q. ap (count q) s.own ∙ sym (uses q);
     }
 

@@ -20,7 +20,7 @@ use Rattle.tree_writer.specs.Levels.{leaf_cut, leaf_line, needs, pages_in, room_
 use Rattle.tree_writer.proofs.Cuts.{Keyed, cuts_fit, cuts_flat, leaves_fit, leaves_joined, leaves_keyed}
 use Rattle.tree_writer.proofs.Needs.{index_half, leaf_fits}
 use Rattle.tree_writer.proofs.Rising.{line_pages}
-use Rattle.written_trees.specs.Trees.{AllShow, numbers}
+use Rattle.written_trees.specs.Trees.{HoldEntries, numbers}
 use Rattle.written_trees.proofs.Forests.{entry_of, leaves_over}
 use Rattle.written_trees.proofs.Levels.{GroupIs, GroupsAre, Reached, both_all, cuts_some, each_is, level_said, line_all, line_below}
 use Rattle.written_trees.proofs.Numbers.{Stand}
@@ -90,15 +90,15 @@ entries_back [] = refl
 entries_back (e ∷ es) = ap (λ (t : List Entry). e ∷ t) (entries_back es)
 
 -- cells hold the entries that have a payload
-pub entries_shown : (f : File) (hs : List Held) (es : List Entry) → AllShow f hs es → AllShow f (entries hs) (some_bytes es)
+pub entries_shown : (f : File) (hs : List Held) (es : List Entry) → HoldEntries f hs es → HoldEntries f (entries hs) (some_bytes es)
 entries_shown f [] [] w = tt
 entries_shown f [] (e ∷ es) w = absurd w
 entries_shown f (h ∷ hs) [] w = absurd w
 entries_shown f (h ∷ hs) (e ∷ es) w =
-    subst (λ n. AllShow f (if nat_eq n 0 then entries hs else h ∷ entries hs) (if nat_eq (length e.bytes) 0 then some_bytes es else e ∷ some_bytes es)) (sym w.0.total)
+    subst (λ n. HoldEntries f (if nat_eq n 0 then entries hs else h ∷ entries hs) (if nat_eq (length e.bytes) 0 then some_bytes es else e ∷ some_bytes es)) (sym w.0.total)
     (by (nat_eq (length e.bytes) 0) (entries_shown f hs es w.1))
   where
-    by : (b : Bool) → AllShow f (entries hs) (some_bytes es) → AllShow f (if b then entries hs else h ∷ entries hs) (if b then some_bytes es else e ∷ some_bytes es)
+    by : (b : Bool) → HoldEntries f (entries hs) (some_bytes es) → HoldEntries f (if b then entries hs else h ∷ entries hs) (if b then some_bytes es else e ∷ some_bytes es)
     by true more = more
     by false more = (w.0, more)
 
@@ -109,7 +109,7 @@ abbrev pub InRise : Option ℤ → List Entry → Type 0
 InRise low [] = Unit {0}
 InRise low (e ∷ es) = Follows low (nat_eq (length e.bytes) 0) e.rowid × InRise e.rowid es
 
-pub order_shown : (f : File) (low : Option ℤ) (hs : List Held) (es : List Entry) → AllShow f hs es → InRise low es → InOrder low hs
+pub order_shown : (f : File) (low : Option ℤ) (hs : List Held) (es : List Entry) → HoldEntries f hs es → InRise low es → InOrder low hs
 order_shown f low [] [] w r = tt
 order_shown f low [] (e ∷ es) w r = absurd w
 order_shown f low (h ∷ hs) [] w r = absurd w

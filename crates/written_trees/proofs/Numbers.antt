@@ -6,7 +6,7 @@ use Rattle.page_access.specs.Pages.{File, page_at}
 use Rattle.page_lists.specs.Lists.{count}
 use Rattle.page_lists.specs.Table.{is_page}
 use Rattle.page_lists.proofs.Counts.{count-append}
-use Rattle.written_trees.specs.Trees.{AreNumbers, HoldsPages, numbers}
+use Rattle.written_trees.specs.Trees.{ArePageNumbers, HasPagesAt, numbers}
 
 pub numbers_more : (number : ℕ → ℕ) (k a b : ℕ) → numbers number k (a + b) ≡ numbers number k a ++ numbers number (k + a) b
 numbers_more number k zero b = ap (λ n. numbers number k n) zero_b ∙ ap (λ n. numbers number n b) place
@@ -69,12 +69,12 @@ numbers_least number rise m least (suc k) =
     subst (λ n. n + m ≤ number n) place there
 
 -- page numbers of the file stand once
-pub numbers_once : (f : File) (number : ℕ → ℕ) (total : ℕ) → AreNumbers f number total → (q k n : ℕ) → k + n ≤ total
+pub numbers_once : (f : File) (number : ℕ → ℕ) (total : ℕ) → ArePageNumbers f number total → (q k n : ℕ) → k + n ≤ total
     → count q (numbers number k n) ≤ (if is_page f.pages q then 1 else 0)
 numbers_once f number total a q k n le =
     run_once f number a.rise q k n (omega (arith, numbers_least number a.rise 2 a.some k)) (λ j lt. a.inside j (omega (arith, lt)))
 
-pub number_is_page : (f : File) (number : ℕ → ℕ) (total : ℕ) → AreNumbers f number total → (k : ℕ) → k < total → is_page f.pages (number k) ≡ true
+pub number_is_page : (f : File) (number : ℕ → ℕ) (total : ℕ) → ArePageNumbers f number total → (k : ℕ) → k < total → is_page f.pages (number k) ≡ true
 number_is_page f number total a k lt =
     page_there f.pages (number k) (omega (arith, numbers_least number a.rise 2 a.some k)) (a.inside k lt)
 
@@ -99,5 +99,5 @@ stand_from f number k (page ∷ pages) h =
       stand_from f number (k + 1) pages (λ i lt. subst (λ n. page_at f (number n) ≡ get_or pages i []) (omega arith) (h (suc i) (omega (arith, lt)))),
     )
 
-pub stand_all : (f : File) (number : ℕ → ℕ) (pages : List (List ℕ)) → HoldsPages f number pages → Stand f number 0 pages
+pub stand_all : (f : File) (number : ℕ → ℕ) (pages : List (List ℕ)) → HasPagesAt f number pages → Stand f number 0 pages
 stand_all f number pages h = stand_from f number 0 pages (λ i lt. subst (λ n. page_at f (number n) ≡ get_or pages i []) (omega arith) (h i lt))

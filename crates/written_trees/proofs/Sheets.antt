@@ -29,7 +29,7 @@ use Rattle.tree_writer.specs.Levels.{Sheet, needs}
 use Rattle.tree_writer.proofs.Chaining.{length-chain}
 use Rattle.tree_writer.proofs.Laying.{needs_slots, stack_len}
 use Rattle.tree_writer.proofs.Lens.{local_le, local_most}
-use Rattle.written_trees.specs.Trees.{AreNumbers, HasRowid, Shows, numbers}
+use Rattle.written_trees.specs.Trees.{ArePageNumbers, HasRowid, HoldsEntry, numbers}
 use Rattle.written_trees.specs.Written.{IsPage, IsWritten, laid_node, rowid_in, said}
 use Rattle.written_trees.proofs.Chains.{over_is}
 use Rattle.written_trees.proofs.Numbers.{Stand, numbers_more, stand_apart}
@@ -53,7 +53,7 @@ ItemIs kind leaf x = IsCell kind leaf x.entry
 
 -- page numbers of a file that has a page more
 pub record AreFew (f : File) (number : ℕ → ℕ) (total : ℕ) : Type 0 where
-  pub are : AreNumbers f number total
+  pub are : ArePageNumbers f number total
   pub more : total + 1 ≤ f.pages
 
 local_within : (usable : ℕ) (kind : Kind) → most_local kind usable ≤ usable
@@ -88,7 +88,7 @@ raw_small (Some z) = omega arith
 
 -- what a cell says of its entry
 record SaysEntry (f : File) (number : ℕ → ℕ) (j n : ℕ) (h : Held) (e : Entry) : Type 0 where
-  shows : Shows f h e
+  shows : HoldsEntry f h e
   chain_is : chain_of f h ≡ numbers number j n
 
 -- the bytes that are not local
@@ -96,7 +96,7 @@ over_many : (f : File) (kind : Kind) (e : Entry) → 480 ≤ f.usable → over_c
 unfolding over_count
 over_many f kind e least = ap (chain_len f) (sym (length-drop (kept_of f.usable kind e.bytes) e.bytes))
 
-cell_shows : (f : File) (number : ℕ → ℕ) (total : ℕ) → AreNumbers f number total → (kind : Kind) (leaf : Bool) (j : ℕ) (x : Item) → 480 ≤ f.usable
+cell_shows : (f : File) (number : ℕ → ℕ) (total : ℕ) → ArePageNumbers f number total → (kind : Kind) (leaf : Bool) (j : ℕ) (x : Item) → 480 ≤ f.usable
     → IsCell kind leaf x.entry → j + over_count f.usable kind x.entry ≤ total → Stand f number j (chain_pages f.usable kind number j x.entry)
     → SaysEntry f number j (over_count f.usable kind x.entry) (said f.usable kind leaf (laid_of number j x)) x.entry
 unfolding payload_of
@@ -160,7 +160,7 @@ abbrev pub CellsShow : File → (ℕ → ℕ) → Bool → List Held → List It
 CellsShow f number leaf [] [] = Unit {0}
 CellsShow f number leaf [] (x ∷ xs) = ⊥
 CellsShow f number leaf (h ∷ hs) [] = ⊥
-CellsShow f number leaf (h ∷ hs) (x ∷ xs) = ((leaf ≡ false → child_of h ≡ number x.child) × Shows f h x.entry) × CellsShow f number leaf hs xs
+CellsShow f number leaf (h ∷ hs) (x ∷ xs) = ((leaf ≡ false → child_of h ≡ number x.child) × HoldsEntry f h x.entry) × CellsShow f number leaf hs xs
 
 record SaysEntries (f : File) (number : ℕ → ℕ) (kind : Kind) (leaf : Bool) (j : ℕ) (xs : List Item) : Type 0 where
   cells : CellsShow f number leaf (map (said f.usable kind leaf) (laid_from f.usable kind number j xs)) xs
@@ -170,7 +170,7 @@ child_said : (usable : ℕ) (kind : Kind) (leaf : Bool) (c : Laid) → leaf ≡ 
 child_said usable kind true c e = cc
 child_said usable kind false c e = refl
 
-cells_show : (f : File) (number : ℕ → ℕ) (total : ℕ) → AreNumbers f number total → (kind : Kind) (leaf : Bool) (j : ℕ) (xs : List Item) → 480 ≤ f.usable
+cells_show : (f : File) (number : ℕ → ℕ) (total : ℕ) → ArePageNumbers f number total → (kind : Kind) (leaf : Bool) (j : ℕ) (xs : List Item) → 480 ≤ f.usable
     → AllByRecursion (ItemIs kind leaf) xs → j + overs f.usable kind xs ≤ total → Stand f number j (chains_from f.usable kind number j xs)
     → SaysEntries f number kind leaf j xs
 cells_show f number total a kind leaf j [] least ok le s = record { cells = tt; chains = refl }

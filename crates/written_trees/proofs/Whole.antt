@@ -20,7 +20,7 @@ use Rattle.tree_writer.specs.Trees.{schema_count, tree_count}
 use Rattle.tree_writer.proofs.Rising.{line_pages, pages_overs}
 use Rattle.tree_writer.proofs.Writing.{length-pages}
 use Rattle.written_trees.specs.Laws.{PagesAreTree, SchemaIsTree}
-use Rattle.written_trees.specs.Trees.{AllShow, AreNumbers, CanHold, HasRowid, HoldsPages, IsTreeOf, first_then, numbers}
+use Rattle.written_trees.specs.Trees.{HoldEntries, ArePageNumbers, CanHold, HasRowid, HasPagesAt, IsTreeOf, first_then, numbers}
 use Rattle.written_trees.proofs.Forests.{Forest, TreeAt, entry_of, leaf_tree, page_over}
 use Rattle.written_trees.proofs.Leaves.{InRise, LeavesAre, entries_back, entries_shown, group_is, kept_all, last_order, leaf_items, leaf_reached, leaves_are, order_shown, row_entries, some_bytes}
 use Rattle.written_trees.proofs.Levels.{Reached, pages-append, pages_apart, reach_top}
@@ -35,7 +35,7 @@ tree_made f kind es row p d n pages t entries_are order same once = record {
   used = pages_of (node_of f) (own_of f) d p;
   tree = record { depth = d; is_tree = t.is_tree; items_are = refl; pages_are = refl };
   order = λ table. order_shown f None (items_of (node_of f) d p) row t.shows (order table);
-  holds = subst (AllShow f _) entries_are (entries_shown f (items_of (node_of f) d p) row t.shows);
+  holds = subst (HoldEntries f _) entries_are (entries_shown f (items_of (node_of f) d p) row t.shows);
   same = λ q. t.uses q ∙ same q;
   once = λ q. omega (arith, t.uses q, same q, once q);
 }
@@ -53,7 +53,7 @@ each_entry : (f : File) (kind : Kind) (number : ℕ → ℕ) (total : ℕ) (es :
 each_entry f kind number total es can = entries_each kind es can.entries_are.some can.entries_are.load can.rowids
 
 -- a file whose pages have these numbers has page 1 too
-are_few : (f : File) (number : ℕ → ℕ) (total : ℕ) → AreNumbers f number total → (total ≡ 0 → 1 ≤ f.pages) → AreFew f number total
+are_few : (f : File) (number : ℕ → ℕ) (total : ℕ) → ArePageNumbers f number total → (total ≡ 0 → 1 ≤ f.pages) → AreFew f number total
 are_few f number zero a some = record { are = a; more = some refl }
 are_few f number (suc k) a some =
     let above = numbers_least number a.rise 2 a.some k in
@@ -127,7 +127,7 @@ tree_is f kind number es can holds =
 -- ---- the schema's tree
 
 -- page 1 and the numbers behind it stand once
-first_once : (f : File) (number : ℕ → ℕ) (total q : ℕ) → AreNumbers f number total → 1 ≤ f.pages → count q (1 ∷ numbers number 0 total) ≤ (if is_page f.pages q then 1 else 0)
+first_once : (f : File) (number : ℕ → ℕ) (total q : ℕ) → ArePageNumbers f number total → 1 ≤ f.pages → count q (1 ∷ numbers number 0 total) ≤ (if is_page f.pages q then 1 else 0)
 first_once f number total q a some = by (nat_eq 1 q) refl (numbers_once f number total a q 0 total (omega arith))
   where
     by : (b : Bool) → nat_eq 1 q ≡ b → count q (numbers number 0 total) ≤ (if is_page f.pages q then 1 else 0)
@@ -151,14 +151,14 @@ record FirstStands (f : File) (front : List ℕ) (number : ℕ → ℕ) (s : She
   over : Stand f number (pages_in f.usable Table below) (chains_from f.usable Table number (pages_in f.usable Table below) s.items)
 
 first_stands : (f : File) (front : List ℕ) (number : ℕ → ℕ) (s : Sheet) (below : List Sheet)
-    → HoldsPages f (first_then number) (sheet_page front f.usable Table number (pages_in f.usable Table below) s
+    → HasPagesAt f (first_then number) (sheet_page front f.usable Table number (pages_in f.usable Table below) s
     ∷ (pages_from f.usable Table number 0 below ++ chains_from f.usable Table number (pages_in f.usable Table below) s.items))
     → FirstStands f front number s below
 first_stands f front number s below holds =
     let n = pages_in f.usable Table below in
     let lows = pages_from f.usable Table number 0 below in
     let overs_of = chains_from f.usable Table number n s.items in
-    let rest : HoldsPages f number (lows ++ overs_of) = λ i lt. holds (suc i) (omega (arith, lt)) in
+    let rest : HasPagesAt f number (lows ++ overs_of) = λ i lt. holds (suc i) (omega (arith, lt)) in
     let parts = stand_apart f number 0 lows overs_of (stand_all f number (lows ++ overs_of) rest) in
     let place : 0 + length lows ≡ n = omega (arith, length-pages f.usable Table number 0 below) in
     record {

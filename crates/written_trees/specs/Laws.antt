@@ -14,7 +14,7 @@ use Rattle.tree_writer.specs.Layout.{schema_pages, tree_pages}
 use Rattle.tree_writer.specs.Levels.{tree_line}
 use Rattle.tree_writer.specs.Numbers.{number_of}
 use Rattle.tree_writer.specs.Trees.{schema_count, tree_count}
-use Rattle.written_trees.specs.Trees.{AreNumbers, CanHold, HoldsPages, IsTreeOf, first_then, numbers}
+use Rattle.written_trees.specs.Trees.{ArePageNumbers, CanHold, HasPagesAt, IsTreeOf, first_then, numbers}
 use Rattle.written_trees.specs.Written.{IsPage, IsWritten, laid_node, laid_page, parts_in}
 
 -- a written cell is read back, whatever follows it
@@ -30,16 +30,16 @@ PagesSayTheirCells = (f : File) (p : ℕ) (front : List ℕ) (kind : Kind) (leaf
     → page_at f p ≡ laid_page front f.usable kind leaf cells right
     → node_of f p ≡ Some (laid_node f.usable kind leaf cells right)
 
--- the pages of a table's or an index's tree, where a file holds them, are a well-formed tree of its entries
+-- the pages of a table's or an index's tree, where a file has them, are a well-formed tree of its entries
 abbrev pub PagesAreTree : Type 0
 PagesAreTree = (f : File) (kind : Kind) (number : ℕ → ℕ) (es : List Entry) → CanHold f kind number (tree_count f.usable kind es) es
-    → HoldsPages f number (tree_pages f.usable kind number es)
+    → HasPagesAt f number (tree_pages f.usable kind number es)
     → IsTreeOf f kind (number (tree_line f.usable kind 0 es).right) es (numbers number 0 (tree_count f.usable kind es))
 
 -- so are the pages of the schema's tree, whose root is page 1
 abbrev pub SchemaIsTree : Type 0
 SchemaIsTree = (f : File) (front : List ℕ) (number : ℕ → ℕ) (es : List Entry) → length front ≡ 100 → 1 ≤ f.pages
-    → CanHold f Table number (schema_count f.usable es - 1) es → HoldsPages f (first_then number) (schema_pages front f.usable number es)
+    → CanHold f Table number (schema_count f.usable es - 1) es → HasPagesAt f (first_then number) (schema_pages front f.usable number es)
     → IsTreeOf f Table 1 es (1 ∷ numbers number 0 (schema_count f.usable es - 1))
 
 -- a tree has at most two pages for each entry and one more, its overflow pages apart
@@ -55,7 +55,7 @@ SchemaPagesAreFew = (usable : ℕ) (es : List Entry) → 480 ≤ usable
 abbrev pub NumbersServe : Type 0
 NumbersServe = (f : File) (start lock total : ℕ) → 2 ≤ start → start + total < 2 ^ 32 - 1
     → ((k : ℕ) → k < total → number_of start lock k ≤ f.pages)
-    → AreNumbers f (number_of start lock) total × ((k : ℕ) → number_of start lock k ≢ lock)
+    → ArePageNumbers f (number_of start lock) total × ((k : ℕ) → number_of start lock k ≢ lock)
 
 -- each page of a written tree has as many bytes as are usable
 abbrev pub PagesAreFull : Type 0

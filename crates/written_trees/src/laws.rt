@@ -14,7 +14,7 @@ pub fn a_written_page_says_its_cells()
     ensures { PagesSayTheirCells }
 {}
 
-/// The pages of the tree of a table or of an index, where a file holds them at rising numbers, are a
+/// The pages of the tree of a table or of an index, where a file has them at rising numbers, are a
 /// well-formed tree: all leaves have one depth, rowids rise and keys bound them, the cells hold exactly
 /// the entries in order, each with its overflow pages, and each page stands in the tree once.
 pub fn the_pages_of_a_plan_are_a_tree()

@@ -63,7 +63,7 @@ few_past [] x [] rest two e = absurd (omega arith)
 few_past (h ∷ hs) x [] rest two e = omega arith
 few_past held x (y ∷ ys) rest two e = let r = e (omega arith) in omega arith
 
-two_held : {X : Type 0} (need : X → ℕ) (room left : ℕ) (held : List X) (x : X) → AllByRecursion (λ y. 2 * need y ≤ room) held → 2 * need x ≤ room
+pub two_held : {X : Type 0} (need : X → ℕ) (room left : ℕ) (held : List X) (x : X) → AllByRecursion (λ y. 2 * need y ≤ room) held → 2 * need x ≤ room
     → sum_by need held + left ≡ room → left < need x → 2 ≤ length held
 two_held need room left [] x half one used lt = absurd (omega arith)
 two_held need room left (a ∷ []) x half one used lt = absurd (omega (arith, half.0, sum_by-cons need a []))

@@ -59,7 +59,7 @@ all_kept : (es : List Entry) (plans more : List PagePlan) (leaf : Bool) (ps : Li
 all_kept es plans more leaf [] all = tt
 all_kept es plans more leaf (p ∷ ps) all = (there_kept es plans more leaf p all.0, all_kept es plans more leaf ps all.1)
 
-all_append : {X : Type 0} (P : X → Type 0) (xs ys : List X) → AllByRecursion P xs → AllByRecursion P ys → AllByRecursion P (xs ++ ys)
+pub all_append : {X : Type 0} (P : X → Type 0) (xs ys : List X) → AllByRecursion P xs → AllByRecursion P ys → AllByRecursion P (xs ++ ys)
 all_append P [] ys a b = b
 all_append P (x ∷ xs) ys a b = (a.0, all_append P xs ys a.1 b)
 
@@ -103,7 +103,7 @@ laid_more usable kind es leaves plans more sheets added l new there starts fits 
     }
 
 -- the pages of a level have room for their cells
-sheets_fit : (usable : ℕ) (kind : Kind) (leaf : Bool) (firsts : List (List Item × Item)) (last : List Item) (right : ℕ)
+pub sheets_fit : (usable : ℕ) (kind : Kind) (leaf : Bool) (firsts : List (List Item × Item)) (last : List Item) (right : ℕ)
     → AllByRecursion (λ (f : List Item × Item). sum_by (need_of usable kind leaf) f.0 ≤ room_in usable leaf) firsts → sum_by (need_of usable kind leaf) last ≤ room_in usable leaf
     → AllByRecursion (SheetFits usable kind) (sheets_from leaf firsts last right)
 sheets_fit usable kind leaf [] last right all one = (one, tt)

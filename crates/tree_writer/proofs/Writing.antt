@@ -293,7 +293,7 @@ some_first usable kind es leaves plans k w lt =
 
 -- ---- page 1
 
-length-pages : (usable : ℕ) (kind : Kind) (number : ℕ → ℕ) (k : ℕ) (ss : List Sheet) → length (pages_from usable kind number k ss) ≡ pages_in usable kind ss
+pub length-pages : (usable : ℕ) (kind : Kind) (number : ℕ → ℕ) (k : ℕ) (ss : List Sheet) → length (pages_from usable kind number k ss) ≡ pages_in usable kind ss
 length-pages usable kind number k [] = refl
 length-pages usable kind number k (s ∷ ss) =
     omega (

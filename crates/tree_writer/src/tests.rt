@@ -75,6 +75,45 @@ fn twenty_index_entries_of_hundred_bytes_take_six_pages(rt: HostRuntime) -> Resu
     Ok(())
 }
 
+// Four entries fit a leaf, and four cells an interior page: nine leaves, two pages over them, the root.
+#[test]
+fn forty_index_entries_of_hundred_bytes_take_three_levels(rt: HostRuntime) -> Result<(), Fail> {
+    let entries = Alike {
+        count: 40,
+        len: 100,
+        rowids: false,
+    };
+    let plan = TreePlan::index(rt.alloc(), 512, &entries)?;
+    assert_eq!(rt; plan.page_count(), 12);
+    assert_eq!(rt; plan.root(), 11);
+    let numbers = Numbering { start: 2, lock: 0 };
+    let mut scratch = [0u8; 100];
+    let mut page = [0u8; 512];
+    plan.write_page(11, &numbers, &entries, &mut scratch, &mut page);
+    assert_eq!(rt;
+        &page[0..12],
+        [2, 0, 0, 0, 1, 1, 151, 0, 0, 0, 0, 12].as_slice()
+    );
+    // The cell names the page before, and holds the entry between the two.
+    assert_eq!(rt; &page[407..413], [0, 0, 0, 11, 100, 24].as_slice());
+    Ok(())
+}
+
+// On pages of 512 bytes 256 bytes of each payload are local, and 508 stand on each of its 1,968 overflow
+// pages; the two leaves and the root are three more.
+#[test]
+fn payloads_of_a_million_bytes_fill_their_overflow_pages(rt: HostRuntime) -> Result<(), Fail> {
+    let entries = Alike {
+        count: 2,
+        len: 1_000_000,
+        rowids: true,
+    };
+    let plan = TreePlan::table(rt.alloc(), 512, &entries)?;
+    assert_eq!(rt; plan.page_count(), 3939);
+    assert_eq!(rt; plan.root(), 3938);
+    Ok(())
+}
+
 #[test]
 fn the_number_of_the_lock_page_is_left_out(rt: HostRuntime) -> Result<(), Fail> {
     let numbers = Numbering { start: 2, lock: 4 };

@@ -1,6 +1,6 @@
 -- A written cell is read back.
-use Rattle.std.proofs.Common.{◌≡◌, ◌<◌, ◌≤◌, ℕ, zero, suc, ◌+◌, ◌-◌, ◌*◌, ◌^◌, Bool, true, false, ◌||◌, List, [], ◌∷◌, ◌++◌, length, take, drop, nat_eq, nat_lt, nat_le, refl, sym, ap, ◌∙◌, subst, arith, append_assoc, append-nil, length-append, length-take, length-drop, drop_at, drop-drop}
-use Rattle.std.specs.Prelude.{if◌then◌else◌, Option, Some, None, Result, Ok, Err}
+use Rattle.std.proofs.Common.{◌≡◌, ◌<◌, ◌≤◌, ℕ, ◌+◌, ◌^◌, Bool, true, false, ◌||◌, List, [], ◌++◌, length, take, drop, nat_eq, nat_lt, refl, sym, ap, ◌∙◌, arith, append_assoc, length-append, length-take}
+use Rattle.std.specs.Prelude.{if◌then◌else◌, Option, Some, None, Ok, Err}
 use Rattle.std.proofs.Math.Seq.{drop-append_seam, drop-append-add}
 use Rattle.std.proofs.lemmas.Bool.Decides.{nat_tests}
 use Rattle.byteorder.specs.Endian.{big_bytes, big_number}
@@ -13,12 +13,11 @@ use Rattle.cell_reader.specs.declared.shapes.Kind.{Kind}
 use Rattle.cell_reader.specs.declared.shapes.Kind.TheVariants.{Table, Index}
 use Rattle.cell_reader.specs.declared.parts.Numbers.{Numbers}
 use Rattle.cell_reader.specs.declared.parts.Parts.{Parts}
-use Rattle.cell_reader.specs.declared.cells.CellFault.{CellFault}
-use Rattle.cell_reader.specs.declared.cells.CellFault.TheVariants.{Cut, Length}
-use Rattle.cell_reader.specs.Cell.{and_varint, cell_parts, local_len, numbers_behind, numbers_of, parts_from, parts_with, size_of, with_payload, without_payload}
+use Rattle.cell_reader.specs.declared.cells.CellFault.TheVariants.{Cut}
+use Rattle.cell_reader.specs.Cell.{cell_parts, local_len, numbers_behind, numbers_of, parts_from, parts_with, size_of, with_payload, without_payload}
 use Rattle.cell_reader.specs.Inside.{has_payload}
 use Rattle.cell_reader.specs.Shape.{u32_at}
-use Rattle.tree_writer.specs.Cells.{Laid, cell_bytes, child_part, head_part, kept_of, link, number_part, payload_part}
+use Rattle.tree_writer.specs.Cells.{Laid, cell_bytes, head_part, kept_of, link, number_part, payload_part}
 use Rattle.tree_writer.proofs.Lens.{local_le, local_none}
 use Rattle.written_trees.specs.Laws.{CellsReadBack}
 use Rattle.written_trees.specs.Written.{IsWritten, parts_in, rowid_in}
@@ -67,6 +66,9 @@ all_numbers kind leaf c = record {
   len = length (head_part kind leaf c);
 }
 
+pub not_less : (n m : ℕ) → m ≤ n → nat_lt n m ≡ false
+not_less n m le = grind (arith, nat_tests)
+
 numbers_back : (kind : Kind) (leaf : Bool) (c : Laid) (rest : List ℕ) → c.child < 256 ^ 4 → c.rowid < 2 ^ 64 → length c.body < 2 ^ 64
     → numbers_of kind leaf (head_part kind leaf c ++ rest) ≡ Some (all_numbers kind leaf c)
 unfolding numbers_of numbers_in all_numbers
@@ -79,7 +81,7 @@ numbers_back kind false c rest k r b =
     let apart : head_part kind false c ++ rest ≡ child ++ (number_part kind false c ++ rest) = append_assoc child (number_part kind false c) rest in
     let four : length child ≡ 4 = length-bytes_high_first 4 c.child in
     let long : nat_lt (length (head_part kind false c ++ rest)) 4 ≡ false
-    = not_short (length (head_part kind false c ++ rest)) (omega (arith, ap length apart, length-append child (number_part kind false c ++ rest), four)) in
+    = not_less (length (head_part kind false c ++ rest)) 4 (omega (arith, ap length apart, length-append child (number_part kind false c ++ rest), four)) in
     let number : big_number 4 (head_part kind false c ++ rest) ≡ c.child = ap (big_number 4) apart ∙ big_number-reads_back 4 c.child (number_part kind false c ++ rest) k in
     let len : length child + length (number_part kind false c) ≡ length (head_part kind false c) = omega (arith, length-append child (number_part kind false c)) in
     let f : ℕ → Numbers = λ n. record { child = Some c.child; rowid = rowid_in kind c; total = if has_payload kind false then Some (length c.body) else None; len = n } in
@@ -88,19 +90,13 @@ numbers_back kind false c rest k r b =
     ∙ ap (λ n. numbers_behind kind false (Some c.child) n (child ++ (number_part kind false c ++ rest))) (sym four)
     ∙ behind_back kind false c (Some c.child) child rest r b ∙ ap (λ n. Some (f n)) len in
     rw (long, number) e
-  where
-    not_short : (n : ℕ) → 4 ≤ n → nat_lt n 4 ≡ false
-    not_short n le = grind (arith, nat_tests)
-
-not_less : (n m : ℕ) → m ≤ n → nat_lt n m ≡ false
-not_less n m le = grind (arith, nat_tests)
 
 -- the payload of a cell behind its numbers
-record Payload (usable : ℕ) (kind : Kind) (leaf : Bool) (c : Laid) (bytes : List ℕ) : Type 0 where
-  long : nat_lt (length bytes) (size_of (length (head_part kind leaf c)) (kept_of usable kind c.body) (length c.body)) ≡ false
-  next : nat_eq (kept_of usable kind c.body) (length c.body) ≡ false → u32_at bytes (length (head_part kind leaf c) + kept_of usable kind c.body) ≡ c.next
+pub record Payload (usable : ℕ) (kind : Kind) (leaf : Bool) (c : Laid) (bytes : List ℕ) : Type 0 where
+  pub long : nat_lt (length bytes) (size_of (length (head_part kind leaf c)) (kept_of usable kind c.body) (length c.body)) ≡ false
+  pub next : nat_eq (kept_of usable kind c.body) (length c.body) ≡ false → u32_at bytes (length (head_part kind leaf c) + kept_of usable kind c.body) ≡ c.next
 
-payload_there : (usable : ℕ) (kind : Kind) (leaf : Bool) (c : Laid) (rest : List ℕ) → 480 ≤ usable → c.next < 256 ^ 4
+pub payload_there : (usable : ℕ) (kind : Kind) (leaf : Bool) (c : Laid) (rest : List ℕ) → 480 ≤ usable → c.next < 256 ^ 4
     → Payload usable kind leaf c (cell_bytes usable kind leaf c ++ rest)
 unfolding cell_bytes
 payload_there usable kind leaf c rest least small =

@@ -1,1 +1,12 @@
 pub mod Cells
+pub mod Pages
+pub mod Numbers
+pub mod Chains
+pub mod Sheets
+pub mod Forests
+pub mod Levels
+pub mod Leaves
+pub mod Whole
+pub mod Few
+pub mod Serving
+pub mod Sized

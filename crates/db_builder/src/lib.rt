@@ -1,0 +1,24 @@
+//! A whole database file, written of tables and their rows (docs/FORMAT.md, "Layout of a written
+//! file").
+#![tactic(auto)]
+
+mod databases;
+mod faults;
+mod headers;
+mod indexes;
+mod labels;
+mod loads;
+mod orders;
+mod plans;
+mod rows;
+mod schema;
+mod writes;
+
+pub use databases::OutDb;
+pub use faults::{BuildFault, PrepareFault};
+pub use loads::load_of;
+pub use plans::{Prepared, prepare};
+pub use writes::build;
+
+#[cfg(test)]
+mod tests;

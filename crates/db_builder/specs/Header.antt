@@ -21,10 +21,13 @@ size_field size = big_bytes 2 (if size == 65536 then 1 else size)
 abbrev pub fixed_fields : List ℕ
 fixed_fields = 1 ∷ (1 ∷ (0 ∷ (64 ∷ (32 ∷ (32 ∷ big_bytes 4 1)))))
 
--- no trunk and no page of a freelist, schema cookie and schema format, default cache size, no largest root
--- page, and the text encoding UTF-8
+-- no trunk and no page of a freelist, schema cookie and schema format
+abbrev pub count_fields : List ℕ
+count_fields = replicate 8 0 ++ (big_bytes 4 1 ++ big_bytes 4 4)
+
+-- the same, default cache size, no largest root page, and the text encoding UTF-8
 abbrev pub schema_fields : List ℕ
-schema_fields = replicate 8 0 ++ (big_bytes 4 1 ++ (big_bytes 4 4 ++ (replicate 8 0 ++ big_bytes 4 1)))
+schema_fields = count_fields ++ (replicate 8 0 ++ big_bytes 4 1)
 
 -- zeros, the change counter for which the number of pages is valid, and the version of the writer
 abbrev pub last_fields : List ℕ

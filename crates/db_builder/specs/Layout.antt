@@ -35,7 +35,7 @@ placed size before (t ∷ ts) =
 
 -- the number of a page of a tree
 abbrev pub number_in : ℕ → Placed → ℕ → ℕ
-number_in size p k = number_of p.start (lock_of size) k
+number_in size p = number_of p.start (lock_of size)
 
 -- the number of a tree's root
 abbrev pub root_of : ℕ → Placed → ℕ

@@ -2,7 +2,9 @@ pub mod Faults
 pub mod Trees
 pub mod Views
 pub mod Header
+pub mod Facts
 pub mod Layout
 pub mod Load
 pub mod Valid
 pub mod Prepared
+pub mod Written

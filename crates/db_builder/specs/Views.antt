@@ -18,10 +18,10 @@ no_row = record { rowid = None; fields = [] }
 abbrev pub row_at : List OutRow → ℕ → StoredRow
 row_at rows i = slice_index_or (map row_seen rows) i no_row
 
--- the value at a spot, given that of the rowid and that of a missing field
+-- the value at a spot, given that of the rowid and what stands for a missing field
 abbrev pub spot_value : Value → Value → List Value → Spot → Value
-spot_value rowid null fields Rowid = rowid
-spot_value rowid null fields (Field i) = slice_index_or fields i null
+spot_value rowid missing fields Rowid = rowid
+spot_value rowid missing fields (Field i) = slice_index_or fields i missing
 
 -- the entries of rows
 abbrev pub row_entries : List OutRow → List Entry

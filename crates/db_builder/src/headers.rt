@@ -3,7 +3,8 @@
 ghost use Rattle.std.specs.Prelude.{◌≡◌, ◌≤◌, ◌+◌, ◌++◌, length};
 ghost use Rattle.arrayvec.specs.ArrayVec.{array_vec_len};
 ghost use Rattle.byteorder.specs.Endian.{big_bytes};
-ghost use Rattle.db_builder.specs.Header.{fixed_fields, header_bytes, last_fields, magic, schema_fields, size_field};
+ghost use Rattle.db_builder.specs.Facts.{said};
+ghost use Rattle.db_builder.specs.Header.{count_fields, fixed_fields, header_bytes, last_fields, magic, schema_fields, size_field};
 
 use arrayvec::ArrayVec;
 use byteorder::{BigEndian, ByteOrder};
@@ -69,11 +70,19 @@ fn add_schema(to: &mut Header)
     ensures bytes { to.new.items ≡ to.old.items ++ schema_fields }
     ensures len { array_vec_len to.new ≡ array_vec_len to.old + 28 }
 {
+    add_counts(to);
+    add(to, &[0; 8]);
+    add_u32(to, 1);
+}
+
+fn add_counts(to: &mut Header)
+    requires { array_vec_len to.old + 16 ≤ 100 }
+    ensures bytes { to.new.items ≡ to.old.items ++ count_fields }
+    ensures len { array_vec_len to.new ≡ array_vec_len to.old + 16 }
+{
     add(to, &[0; 8]);
     add_u32(to, 1);
     add_u32(to, 4);
-    add(to, &[0; 8]);
-    add_u32(to, 1);
 }
 
 fn add_last(to: &mut Header)
@@ -90,12 +99,7 @@ fn add_last(to: &mut Header)
 #[tactic(auto, unfolding(crate::specs::Header::header_bytes))]
 pub fn header(facts: FileFacts) -> Header
     requires { facts.size ≤ 65536 }
-    ensures bytes { result.items ≡ header_bytes (record {
-      size = facts.size;
-      pages = facts.pages;
-      user_version = facts.user_version;
-      application_id = facts.application_id;
-    }) }
+    ensures bytes { result.items ≡ header_bytes (said facts) }
     ensures len { array_vec_len result ≡ 100 }
 {
     let mut to = Header::new();

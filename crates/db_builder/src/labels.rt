@@ -1,6 +1,6 @@
 //! The rows of the schema.
 
-ghost use Rattle.std.specs.Prelude.{◌≡◌, ◌++◌, ◌<◌, ◌^◌, IfOk, codes, decimal, length};
+ghost use Rattle.std.specs.Prelude.{◌≡◌, ◌++◌, ◌∷◌, [], IfOk, codes, decimal, length, pos};
 ghost use Rattle.record_core.specs.Shortest.{IsWritable, record_bytes};
 ghost use Rattle.table_shape.specs.Names.{index_name};
 ghost use Rattle.db_builder.specs.Layout.{row_values};
@@ -46,6 +46,8 @@ fn row_values(
     root: u32,
     sql: Value,
 ) -> Result<Vec<Value>, AllocError>
+    ensures { IfOk result (λ v. v.items ≡ Value.Text type_name.now ∷ name ∷ Value.Text table.now.name
+        ∷ Value.Whole (pos root) ∷ sql ∷ []) }
 {
     let mut values = Vec::with_capacity(alloc, 5)?;
     values.push(text(alloc, type_name)?)?;

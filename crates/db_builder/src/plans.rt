@@ -1,6 +1,8 @@
 //! What is prepared before a file is written.
 
-ghost use Rattle.std.specs.Prelude.{◌≡◌, ◌≤◌, ◌<◌, ◌^◌, IfOk, length};
+ghost use Rattle.std.specs.Prelude.{◌≡◌, ◌≤◌, ◌<◌, ◌+◌, ◌^◌, IfOk, length};
+
+ghost use Rattle.db_builder.specs.Layout.{lock_of};
 
 use crate::databases::OutDb;
 use crate::faults::PrepareFault;
@@ -62,6 +64,8 @@ struct Planner {
 /// The number of the lock-byte page, which holds byte 2^30 of a file (fileformat2.html, 1.4).
 pub fn lock_of(page_size: u32) -> u32
     requires { 512 ≤ page_size }
+    ensures value { result ≡ lock_of page_size }
+    ensures small { result ≤ 2 ^ 21 + 1 }
 {
     (1 << 30) / page_size + 1
 }

@@ -3,7 +3,7 @@
 ghost use Rattle.std.specs.Prelude.{◌≡◌, ◌<◌, ◌^◌, length};
 ghost use Rattle.std.proofs.Props.{props};
 ghost use Rattle.record_core.specs.Shortest.{IsWritable, record_bytes};
-ghost use Rattle.db_builder.specs.Views.{AreWritable, row_entries};
+ghost use Rattle.db_builder.specs.Views.{AreWritable, row_at, row_entries};
 
 use record_core::{FieldSlice, record_len, write_record};
 use table_shape::OutRow;
@@ -15,6 +15,17 @@ pub struct RowEntries<'a> {
     pub rows: &'a [OutRow],
     ghost few: { length rows.now < 2 ^ 32 },
     ghost writable: { AreWritable rows.now } by { Prim.hlevel props },
+}
+
+impl<'a> RowEntries<'a> {
+    fn fields(&self, i: u32) -> FieldSlice<'a>
+        requires { i < length self.now.rows.now }
+        ensures { result.values.now ≡ (row_at self.now.rows.now i).fields }
+    {
+        FieldSlice {
+            values: self.rows[i as usize].fields.as_slice(),
+        }
+    }
 }
 
 impl Entries for RowEntries<'_> {
@@ -29,19 +40,10 @@ impl Entries for RowEntries<'_> {
     }
 
     fn payload_len(&self, i: u32) -> u64 {
-        let row = &self.rows[i as usize];
-        record_len(&FieldSlice {
-            values: row.fields.as_slice(),
-        }) as u64
+        record_len(&self.fields(i)) as u64
     }
 
     fn payload(&self, i: u32, to: &mut [u8]) {
-        let row = &self.rows[i as usize];
-        let _len = write_record(
-            &FieldSlice {
-                values: row.fields.as_slice(),
-            },
-            to,
-        );
+        let _len = write_record(&self.fields(i), to);
     }
 }

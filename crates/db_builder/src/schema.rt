@@ -12,6 +12,17 @@ pub struct SchemaEntries<'a> {
     ghost few: { length trees.now < 2 ^ 32 },
 }
 
+impl<'a> SchemaEntries<'a> {
+    ghost use Rattle.db_builder.specs.Prepared.{record_in};
+
+    fn record(&self, i: u32) -> &'a [u8]
+        requires { i < length self.now.trees.now }
+        ensures { result.now ≡ record_in self.now.trees.now i }
+    {
+        self.trees[i as usize].record.as_slice()
+    }
+}
+
 impl Entries for SchemaEntries<'_> {
     ghost use Rattle.db_builder.specs.Prepared.{schema_seen};
 
@@ -22,14 +33,14 @@ impl Entries for SchemaEntries<'_> {
     }
 
     fn rowid(&self, i: u32) -> Option<i64> {
-        Some(i64::from(i) + 1)
+        Some(i64::from(i + 1))
     }
 
     fn payload_len(&self, i: u32) -> u64 {
-        self.trees[i as usize].record.as_slice().len() as u64
+        self.record(i).len() as u64
     }
 
     fn payload(&self, i: u32, to: &mut [u8]) {
-        to.copy_from_slice(self.trees[i as usize].record.as_slice());
+        to.copy_from_slice(self.record(i));
     }
 }

@@ -1,0 +1,4 @@
+pub mod Viewing
+pub mod Paging
+pub mod Planned
+pub mod Whole

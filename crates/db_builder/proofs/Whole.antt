@@ -12,7 +12,7 @@ use Rattle.db_builder.specs.declared.plans.Prepared.{Prepared}
 use Rattle.db_builder.specs.Layout.{Placed, layout, lock_of, numbered, paged, pages_of_schema, pages_of_trees, placed, schema_entries, schema_record, start_of, tree_bytes}
 use Rattle.db_builder.specs.Header.{header_bytes}
 use Rattle.db_builder.specs.Prepared.{HaveAtMost, IsPlanned, IsPrepared, records_of, schema_seen}
-use Rattle.db_builder.specs.Trees.{trees_of}
+use Rattle.db_builder.specs.Trees.{Tree, trees_of}
 use Rattle.db_builder.specs.Written.{ArePages, OfSchema}
 
 -- the records of planned trees are those of the schema
@@ -74,3 +74,8 @@ pub zip_by : (size longest s l : ℕ) (tables tables' : List OutTable) (ps : Lis
 zip_by size longest s l tables tables' ps ts ts' a b c d all =
     subst (λ n. AllZip (IsPlanned n tables' l) ps ts') a (subst (λ n. AllZip (IsPlanned size tables' n) ps ts') b
     (subst (λ (x : List OutTable). AllZip (IsPlanned size x longest) ps ts') c (subst (AllZip (IsPlanned size tables longest) ps) d all)))
+
+-- the entries of the schema are the records of the planned trees
+pub seen_entries : (size longest : ℕ) (tables : List OutTable) (all : List Tree) (ts : List PlannedTree) → AllZip (IsPlanned size tables longest) (placed size 0 all) ts
+    → schema_seen ts ≡ schema_entries size all
+seen_entries size longest tables all ts zip = ap (numbered 1) (records_are size longest tables (placed size 0 all) ts zip)

@@ -1,4 +1,3 @@
-pub mod Faults
 pub mod Trees
 pub mod Views
 pub mod Header
@@ -7,4 +6,6 @@ pub mod Layout
 pub mod Load
 pub mod Valid
 pub mod Prepared
+pub mod Plannable
+pub mod SoFar
 pub mod Written

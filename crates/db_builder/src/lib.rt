@@ -3,22 +3,18 @@
 #![tactic(auto)]
 
 mod databases;
-mod faults;
 mod headers;
 mod indexes;
 mod labels;
-mod loads;
 mod orders;
+mod planners;
 mod plans;
 mod rows;
 mod schema;
 mod writes;
 
 pub use databases::OutDb;
-pub use faults::{BuildFault, PrepareFault};
-pub use loads::load_of;
-pub use plans::{Prepared, prepare};
-pub use writes::build;
+pub use plans::{Prepared, plan_file};
 
 #[cfg(test)]
 mod tests;

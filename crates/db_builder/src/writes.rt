@@ -15,28 +15,14 @@ ghost use Rattle.db_builder.specs.Trees.{trees_of};
 ghost use Rattle.db_builder.specs.Written.{ArePages};
 
 use crate::databases::OutDb;
-use crate::faults::BuildFault;
 use crate::headers::{FileFacts, header};
 use crate::indexes::IndexEntries;
-use crate::plans::{PlannedTree, Prepared, lock_of, prepare};
+use crate::plans::{PlannedTree, Prepared, lock_of};
 use crate::rows::RowEntries;
 use crate::schema::SchemaEntries;
 use page_access::{Failed, Sink};
-use std::alloc::Global;
 use table_shape::OutTable;
 use tree_writer::{Entries, Numbering, TreePlan};
-
-/// Puts a whole file into a sink, one page per call, and gives the number of pages.
-pub fn build<O: Sink>(
-    alloc: Global,
-    db: &OutDb,
-    page_size: u32,
-    limit: u64,
-    out: &mut O,
-) -> Result<u32, BuildFault> {
-    let mut prepared = prepare(alloc, db, page_size, limit)?;
-    Ok(prepared.write(db, out)?)
-}
 
 impl Prepared {
     /// Puts the file that was prepared into a sink, one page per call, and gives the number of pages.

@@ -1,0 +1,35 @@
+use Rattle.std.proofs.Common.{◌≡◌, ◌∙◌, ◌<◌, ℕ, List, ap, sym, subst, arith, length}
+use Rattle.table_shape.specs.declared.rows.OutTable.{OutTable}
+use Rattle.tree_writer.specs.Entry.{AreEntries}
+use Rattle.db_builder.specs.declared.plans.Prepared.{Prepared}
+use Rattle.db_builder.specs.Layout.{placed, schema_entries}
+use Rattle.db_builder.specs.Prepared.{IsPlanned, IsPrepared, schema_seen}
+use Rattle.db_builder.specs.SoFar.{IsSoFar}
+use Rattle.db_builder.specs.Trees.{trees_of}
+use Rattle.db_builder.proofs.Made.{ok_by}
+use Rattle.db_builder.proofs.Taking.{placed_len, zip_len}
+use Rattle.db_builder.proofs.Whole.{seen_entries}
+use Rattle.db_builder.proofs.plans.plan_file.Goals as goal
+
+pub finish-requires : goal.finish-requires
+finish-requires c =
+    let p = c.in_ok-planner.planner in
+    let tables = c.args.db.now.tables.items in
+    let so : IsSoFar tables (trees_of tables) p = subst (λ (ts : List OutTable). IsSoFar ts (trees_of ts) p) c.as_slice.ensures.value c.in_ok-planner.ensures.1 in
+    let es : schema_seen p.trees.items ≡ schema_entries c.args.page_size (trees_of tables) =
+        seen_entries p.page_size p.longest tables (trees_of tables) p.trees.items so.planned ∙ ap (λ n. schema_entries n (trees_of tables)) c.in_ok-planner.ensures.0 in
+    record {
+      few = omega (
+        arith, c.requires.can.few, placed_len p.page_size 0 (trees_of tables),
+        zip_len (IsPlanned p.page_size tables p.longest) (placed p.page_size 0 (trees_of tables)) p.trees.items so.planned,
+      );
+      entries = subst AreEntries (sym es) c.requires.can.schema;
+    }
+
+pub returns : goal.returns
+returns c =
+    let p = c.in_ok-planner.planner in
+    let db = c.args.db.now in
+    let tables = db.tables.items in
+    let so : IsSoFar tables (trees_of tables) p = subst (λ (ts : List OutTable). IsSoFar ts (trees_of ts) p) c.as_slice.ensures.value c.in_ok-planner.ensures.1 in
+    ok_by c.finish.result _ (IsPrepared c.args.page_size db) (λ (x : Prepared) h. subst (λ (n : ℕ). IsPrepared n db x) c.in_ok-planner.ensures.0 (h db so)) c.finish.ensures

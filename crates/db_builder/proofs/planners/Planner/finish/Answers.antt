@@ -1,5 +1,4 @@
 use Rattle.std.proofs.Common.{◌≡◌, ◌∙◌, ◌+◌, ◌-◌, ◌≤◌, ℕ, List, ap, sym, subst, refl, arith, length, max}
-use Rattle.std.proofs.lemmas.List.{length-replicate}
 use Rattle.tree_writer.specs.Entry.{Entry}
 use Rattle.tree_writer.specs.Numbers.{number_of}
 use Rattle.tree_writer.specs.Trees.{IsSchemaPlan}
@@ -20,7 +19,7 @@ returns c = λ db so.
     let size = self.page_size in
     let all = trees_of db.tables.items in
     let lent = length c.in_ok-scratch.scratch.items in
-    let len : lent ≡ c.max-most.result = ap length c.in_ok-scratch.ensures.items ∙ length-replicate c.max-most.result 0 in
+    let len : lent ≡ c.max-most.result = omega (arith, c.in_ok-scratch.ensures.len, c.in_ok-scratch.scratch.ok.0) in
     let es : schema_seen c.as_slice.result.now ≡ schema_entries size all = ap schema_seen c.as_slice.ensures.value
         ∙ seen_entries size self.longest db.tables.items all self.trees.items so.planned in
     let short : HaveAtMost lent (schema_seen c.as_slice.result.now) = λ i lt. let h = c.longest.ensures i lt in omega (arith, h, len, c.max-most.ensures) in
@@ -38,5 +37,5 @@ returns c = λ db so.
       start_least = c.in_ok-numbers.ensures.least;
       start_most = c.in_ok-numbers.ensures.most;
       pages = c.number-pages.ensures ∙ ap (λ l. number_of 1 l (self.before + c.page_count.result - 1)) c.in_ok-numbers.ensures.lock ∙ ap (number_of 1 (lock_of size)) last;
-      page = ap length c.in_ok-page.ensures.items ∙ length-replicate size 0;
+      page = omega (arith, c.in_ok-page.ensures.len, c.in_ok-page.page.ok.0);
     }

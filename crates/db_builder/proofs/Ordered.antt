@@ -95,12 +95,12 @@ mapped_more parts rows i j es es' k r m next is key now =
     let lt : j < length rows = omega (arith, m.within, next) in
     let row : row_at rows j ≡ row_seen r = row_is rows j r lt is in
     let dropped : drop j (map row_seen rows) ≡ row_at rows j ∷ drop i (map row_seen rows) =
-        drop-cons (map row_seen rows) j no_row (omega (arith, length-map rows row_seen)) ∙ ap (λ n. row_at rows j ∷ drop n (map row_seen rows)) (let e : suc j ≡ i = omega arith in e) in
+    drop-cons (map row_seen rows) j no_row (omega (arith, length-map rows row_seen)) ∙ ap (λ n. row_at rows j ∷ drop n (map row_seen rows)) (let e : suc j ≡ i = omega arith in e) in
     let keyed : k ≡ key_of parts (row_at rows j) = key ∙ ap (key_of parts) (sym row) in
     let added : seen (row_at rows) (insert_entry cmp es k j) ≡ in_order (key_of parts) (drop j (map row_seen rows)) =
-        insert_seen cmp (row_at rows) es k j ∙ ap (λ l. insert_entry cmp l k (row_at rows j)) m.order
-        ∙ ap (λ x. insert_entry cmp (in_order (key_of parts) (drop i (map row_seen rows))) x (row_at rows j)) keyed
-        ∙ ap (in_order (key_of parts)) (sym dropped) in
+    insert_seen cmp (row_at rows) es k j ∙ ap (λ l. insert_entry cmp l k (row_at rows j)) m.order
+    ∙ ap (λ x. insert_entry cmp (in_order (key_of parts) (drop i (map row_seen rows))) x (row_at rows j)) keyed
+    ∙ ap (in_order (key_of parts)) (sym dropped) in
     subst (Mapped parts rows j) (sym now) (record {
       order = added;
       there = all_insert cmp (λ j. j < length rows) es k j lt m.there;

@@ -42,7 +42,10 @@ count_is es number p first pages (OfTree usable kind plan e same) =
     omega (arith, e, ap length same, length-pages usable kind number 0 (tree_sheets usable kind 0 es), plan.count)
 count_is es number p first pages (OfSchema usable plan e same) =
     omega (
-      arith, e, ap length same, plan.count,
+      arith,
+      e,
+      ap length same,
+      plan.count,
       length-append (pages_from usable Table number 0 (schema_sheets usable es)) (chains_from usable Table number (pages_in usable Table (schema_sheets usable es)) (schema_top usable es).items),
       length-pages usable Table number 0 (schema_sheets usable es),
       length-chains usable Table number (pages_in usable Table (schema_sheets usable es)) (schema_top usable es).items,

@@ -31,7 +31,8 @@ top_below usable kind top (suc n) line lt =
         < line.next + pages_in usable kind (if b then [] else sheets_of false (level_cut usable kind line) line.right ++ level_sheets usable kind top n (line_above usable kind line))
     by true h = omega arith
     by false h = omega (
-      arith, h,
+      arith,
+      h,
       line_pages usable kind false line.next (level_cut usable kind line).firsts (level_cut usable kind line).last line.right,
       pages-append usable kind (sheets_of false (level_cut usable kind line) line.right) (level_sheets usable kind top n (line_above usable kind line)),
     )

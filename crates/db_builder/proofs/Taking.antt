@@ -76,12 +76,12 @@ taken tables done number tree old new made lt is so size trees before more longe
     let n = old.page_size in
     let planned = is.planned tables lt refl in
     let next : next_placed old tree ≡ record { start = start_of n (0 + pages_of_trees n done); tree = tree } =
-        ap (λ (k : ℕ). record { start = start_of n k; tree = tree }) (let e : old.before ≡ 0 + pages_of_trees n done = omega (arith, so.before) in e) in
+    ap (λ (k : ℕ). record { start = start_of n k; tree = tree }) (let e : old.before ≡ 0 + pages_of_trees n done = omega (arith, so.before) in e) in
     let both = zip-append (IsPlanned n tables new.longest) (placed n 0 done) old.trees.items (next_placed old tree) made.tree
-        (all_longer n old.longest new.longest tables (placed n 0 done) old.trees.items more so.planned)
-        (longer n made.longest new.longest tables (next_placed old tree) made.tree longest planned) in
+    (all_longer n old.longest new.longest tables (placed n 0 done) old.trees.items more so.planned)
+    (longer n made.longest new.longest tables (next_placed old tree) made.tree longest planned) in
     let all = subst (λ (ps : List Placed). AllZip (IsPlanned n tables new.longest) ps (old.trees.items ++ made.tree ∷ []))
-        (ap (λ p. placed n 0 done ++ p ∷ []) next ∙ sym (placed-append n 0 done tree)) both in
+    (ap (λ p. placed n 0 done ++ p ∷ []) next ∙ sym (placed-append n 0 done tree)) both in
     let sums : pages_of_trees n (done ++ tree ∷ []) ≡ pages_of_trees n done + pages_of_trees n (tree ∷ []) = sum_by-append (λ (x : Tree). tree_count n x.kind x.entries) done (tree ∷ []) in
     let last : pages_of_trees n (tree ∷ []) ≡ tree_count n tree.kind tree.entries = omega (arith, sum_by-cons (λ (x : Tree). tree_count n x.kind x.entries) tree []) in
     record {

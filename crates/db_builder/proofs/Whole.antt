@@ -48,13 +48,13 @@ unfolding layout
 schema_asks size db p trees lock is same locked =
     let all = trees_of db.tables.items in
     let es : schema_seen trees ≡ schema_entries size all =
-        ap schema_seen same ∙ ap (numbered 1) (records_are size (length p.scratch.items) db.tables.items (placed size 0 all) p.trees.items is.trees) in
+    ap schema_seen same ∙ ap (numbered 1) (records_are size (length p.scratch.items) db.tables.items (placed size 0 all) p.trees.items is.trees) in
     let number : number_of p.start lock ≡ number_of (start_of size (pages_of_trees size all)) (lock_of size) =
-        ap (λ s. number_of s lock) is.start ∙ ap (number_of (start_of size (pages_of_trees size all))) locked in
+    ap (λ s. number_of s lock) is.start ∙ ap (number_of (start_of size (pages_of_trees size all))) locked in
     let pages : (front : List ℕ) → schema_pages front size (number_of p.start lock) (schema_seen trees)
-            ≡ schema_pages front size (number_of (start_of size (pages_of_trees size all)) (lock_of size)) (schema_entries size all) =
-        λ front. ap (λ (f : ℕ → ℕ). schema_pages front size f (schema_seen trees)) number
-        ∙ ap (schema_pages front size (number_of (start_of size (pages_of_trees size all)) (lock_of size))) es in
+    ≡ schema_pages front size (number_of (start_of size (pages_of_trees size all)) (lock_of size)) (schema_entries size all) =
+    λ front. ap (λ (f : ℕ → ℕ). schema_pages front size f (schema_seen trees)) number
+    ∙ ap (schema_pages front size (number_of (start_of size (pages_of_trees size all)) (lock_of size))) es in
     let schema : IsSchemaPlan size (schema_seen trees) p.schema = subst (λ (xs : List Entry). IsSchemaPlan size xs p.schema) (sym es) is.schema in
     record {
       schema = schema;

@@ -16,7 +16,14 @@ pub fn table_values(alloc: Global, table: &OutTable, root: u32) -> Result<Vec<Va
     ensures { IfOk result (λ v. v.items ≡ row_values (table_label table.now) root) }
 {
     let sql = text(alloc, table.text.as_slice())?;
-    row_values(alloc, b"table", text(alloc, table.name.as_slice())?, table, root, sql)
+    row_values(
+        alloc,
+        b"table",
+        text(alloc, table.name.as_slice())?,
+        table,
+        root,
+        sql,
+    )
 }
 
 /// The values of an automatic index's row, where its key and its root have these numbers.

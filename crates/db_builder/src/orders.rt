@@ -15,11 +15,7 @@ use std::collections::BTreeMap;
 use table_shape::{KeyPart, OutRow, Spot};
 
 /// The numbers of rows, counted from 0, in the order of a key.
-pub fn order_of(
-    alloc: Global,
-    parts: &[KeyPart],
-    rows: &[OutRow],
-) -> Result<Vec<u32>, AllocError>
+pub fn order_of(alloc: Global, parts: &[KeyPart], rows: &[OutRow]) -> Result<Vec<u32>, AllocError>
     requires { length rows.now < 2 ^ 32 }
     ensures order { IfOk result (λ v. map (row_at rows.now) v.items
         ≡ map (λ e. e.1) (in_order (key_of parts.now) (map row_seen rows.now))) }

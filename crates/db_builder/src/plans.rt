@@ -82,7 +82,8 @@ pub fn plan_file(alloc: Global, db: &OutDb, page_size: u32) -> Result<Prepared, 
     requires least { 512 ≤ page_size }
     requires most { page_size ≤ 65536 }
     requires can { CanPrepare page_size db.now }
-    ensures { IfOk result (IsPrepared page_size db.now) }
+    ensures size { IfOk result (λ p. p.page_size ≡ page_size) }
+    ensures prepared { IfOk result (λ p. IsPrepared p.page_size db.now p) }
 {
     let planner = plan_trees(alloc, db.tables.as_slice(), page_size)?;
     planner.finish(alloc)
@@ -119,7 +120,12 @@ impl Planner {
         Numbering { start, lock }
     }
 
-    fn add_table(&mut self, alloc: Global, number: usize, table: &OutTable) -> Result<(), AllocError>
+    fn add_table(
+        &mut self,
+        alloc: Global,
+        number: usize,
+        table: &OutTable,
+    ) -> Result<(), AllocError>
         requires { IsPlannable table.now }
         ensures size { self.new.page_size ≡ self.old.page_size }
         ensures trees { (tables : List OutTable) (done : List Tree) → number < length tables
@@ -137,14 +143,24 @@ impl Planner {
     }
 
     // The plan of a table's own tree, behind the trees so far.
-    fn plan_rows(&self, alloc: Global, number: usize, table: &OutTable) -> Result<MadeTree, AllocError>
+    fn plan_rows(
+        &self,
+        alloc: Global,
+        number: usize,
+        table: &OutTable,
+    ) -> Result<MadeTree, AllocError>
         requires { IsPlannable table.now }
         ensures { IfOk result (IsMade self.now number table.now.rows.items (table_tree table.now)) }
     {
         let entries = RowEntries {
             rows: table.rows.as_slice(),
         };
-        let plan = plan_of(alloc, self.page_size, kind_of(table.shape.without_rowid), &entries)?;
+        let plan = plan_of(
+            alloc,
+            self.page_size,
+            kind_of(table.shape.without_rowid),
+            &entries,
+        )?;
         let numbers = self.place(&plan)?;
         let longest = longest(&entries);
         let values = table_values(alloc, table, numbers.number(plan.root()))?;
@@ -262,7 +278,11 @@ impl Planner {
 fn kind_of(without_rowid: bool) -> Kind
     ensures { result ≡ kind_of without_rowid }
 {
-    if without_rowid { Kind::Index } else { Kind::Table }
+    if without_rowid {
+        Kind::Index
+    } else {
+        Kind::Table
+    }
 }
 
 fn plan_of<N: Entries>(

@@ -17,10 +17,12 @@ finish-requires c =
     let tables = c.args.db.now.tables.items in
     let so : IsSoFar tables (trees_of tables) p = subst (λ (ts : List OutTable). IsSoFar ts (trees_of ts) p) c.as_slice.ensures.value c.in_ok-planner.ensures.1 in
     let es : schema_seen p.trees.items ≡ schema_entries c.args.page_size (trees_of tables) =
-        seen_entries p.page_size p.longest tables (trees_of tables) p.trees.items so.planned ∙ ap (λ n. schema_entries n (trees_of tables)) c.in_ok-planner.ensures.0 in
+    seen_entries p.page_size p.longest tables (trees_of tables) p.trees.items so.planned ∙ ap (λ n. schema_entries n (trees_of tables)) c.in_ok-planner.ensures.0 in
     record {
       few = omega (
-        arith, c.requires.can.few, placed_len p.page_size 0 (trees_of tables),
+        arith,
+        c.requires.can.few,
+        placed_len p.page_size 0 (trees_of tables),
         zip_len (IsPlanned p.page_size tables p.longest) (placed p.page_size 0 (trees_of tables)) p.trees.items so.planned,
       );
       entries = subst AreEntries (sym es) c.requires.can.schema;
@@ -32,4 +34,7 @@ returns c =
     let db = c.args.db.now in
     let tables = db.tables.items in
     let so : IsSoFar tables (trees_of tables) p = subst (λ (ts : List OutTable). IsSoFar ts (trees_of ts) p) c.as_slice.ensures.value c.in_ok-planner.ensures.1 in
-    ok_by c.finish.result _ (IsPrepared c.args.page_size db) (λ (x : Prepared) h. subst (λ (n : ℕ). IsPrepared n db x) c.in_ok-planner.ensures.0 (h db so)) c.finish.ensures
+    record {
+      size = ok_by c.finish.result _ _ (λ (x : Prepared) h. (h db so).size_is ∙ c.in_ok-planner.ensures.0) c.finish.ensures;
+      prepared = ok_by c.finish.result _ _ (λ (x : Prepared) h. subst (λ (n : ℕ). IsPrepared n db x) (sym (h db so).size_is) (h db so)) c.finish.ensures;
+    }

@@ -18,5 +18,5 @@ returns g c =
     let number = number_of c.args.numbers.now.start c.args.numbers.now.lock in
     let len : length c.as_slice.result.now ≡ 100 = omega (arith, c.header.ensures.len, ap length c.as_slice.ensures.value, c.as_slice.ensures.fits) in
     let front : take 100 c.put_front.new.page ≡ header_bytes (said c.args.facts) =
-        ap (λ n. take n c.put_front.new.page) (sym len) ∙ c.put_front.ensures ∙ c.as_slice.ensures.value ∙ c.header.ensures.bytes in
+    ap (λ n. take n c.put_front.new.page) (sym len) ∙ c.put_front.ensures ∙ c.as_slice.ensures.value ∙ c.header.ensures.bytes in
     writes_same (c.write_page.ensures.schema size c.requires.plan ∙ ap (λ f. get_or (schema_pages f size number es) 0 []) front) c.put.ensures.writes

@@ -9,15 +9,18 @@ pub loop-j-init : goal.loop-j-init
 loop-j-init g c = (tt, λ pages are. front_start _ _ _)
 
 pub loop-j-preserved : goal.loop-j-preserved
-loop-j-preserved g c = (c.in_ok-held.ensures.held, λ pages are.
-    let number = number_of c.args.numbers.now.start c.args.numbers.now.lock in
-    let size = length c.args.page.now in
-    let j = c.loop-j.j in
-    let rest = paged size number (j + 1) (drop (j + 1) pages) in
-    let lt : j < length pages = omega (arith, count_is _ _ _ _ pages are, c.page_count.ensures.value, c.loop-j-test.true) in
-    front_step rest
-    (front_as (paged_step size number j pages lt ∙ ap (λ s. (gap s (number j) ++ get_or pages j []) ++ rest) (sym c.loop-j.auto.page)) (c.loop-j.invariant.1 pages are))
-    (c.in_ok-held.ensures.writes pages are))
+loop-j-preserved g c = (
+  c.in_ok-held.ensures.held,
+  λ pages are.
+      let number = number_of c.args.numbers.now.start c.args.numbers.now.lock in
+      let size = length c.args.page.now in
+      let j = c.loop-j.j in
+      let rest = paged size number (j + 1) (drop (j + 1) pages) in
+      let lt : j < length pages = omega (arith, count_is _ _ _ _ pages are, c.page_count.ensures.value, c.loop-j-test.true) in
+      front_step rest
+      (front_as (paged_step size number j pages lt ∙ ap (λ s. (gap s (number j) ++ get_or pages j []) ++ rest) (sym c.loop-j.auto.page)) (c.loop-j.invariant.1 pages are))
+      (c.in_ok-held.ensures.writes pages are),
+)
 
 pub returns-in_err-held : goal.returns-in_err-held
 returns-in_err-held g c = λ pages are.

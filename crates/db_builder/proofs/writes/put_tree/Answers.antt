@@ -19,7 +19,7 @@ put_pages-requires g c =
     let p = c.requires.planned.0 in
     let is = c.requires.planned.1 in
     let rows : c.as_slice-rows.result.now ≡ rows_at tables t.table = c.as_slice-rows.ensures.value ∙ ap (λ (x : OutTable). x.rows.items) (sym c.index-tables-tree.is)
-        ∙ sym (rows_are tables t.table c.index-tables-tree.result is.there c.index-tables-tree.is) in
+    ∙ sym (rows_are tables t.table c.index-tables-tree.result is.there c.index-tables-tree.is) in
     let a = asks size longest c.args.lock tables _ p t is c.requires.lock (same_rows size longest tables c.as_slice-rows.result.now p t is c.in-None.is rows) in
     record { plan = a.plan; size = a.usable; room = a.room; lock = c.requires.lock; least = a.least; most = a.most; first = omega arith }
 
@@ -32,7 +32,7 @@ invariant_of-entries-in-Some g c =
     let p = c.requires.planned.0 in
     let is = c.requires.planned.1 in
     let rows : c.as_slice-rows.result.now ≡ rows_at tables t.table = c.as_slice-rows.ensures.value ∙ ap (λ (x : OutTable). x.rows.items) (sym c.index-tables-tree.is)
-        ∙ sym (rows_are tables t.table c.index-tables-tree.result is.there c.index-tables-tree.is) in
+    ∙ sym (rows_are tables t.table c.index-tables-tree.result is.there c.index-tables-tree.is) in
     let can = can_index size longest tables p t c.in-Some.index is c.in-Some.is in
     record {
       few = subst (λ (xs : List ℕ). length xs < 4294967296) (sym c.as_slice-in-Some.ensures.value) can.few;
@@ -51,9 +51,9 @@ put_pages-requires-in-Some g c =
     let p = c.requires.planned.0 in
     let is = c.requires.planned.1 in
     let rows : c.as_slice-rows.result.now ≡ rows_at tables t.table = c.as_slice-rows.ensures.value ∙ ap (λ (x : OutTable). x.rows.items) (sym c.index-tables-tree.is)
-        ∙ sym (rows_are tables t.table c.index-tables-tree.result is.there c.index-tables-tree.is) in
+    ∙ sym (rows_are tables t.table c.index-tables-tree.result is.there c.index-tables-tree.is) in
     let a = asks size longest c.args.lock tables _ p t is c.requires.lock
-        (same_index size longest tables c.as_slice-rows.result.now p t c.in-Some.index c.as_slice.result.now c.as_slice-in-Some.result.now is c.in-Some.is c.as_slice.ensures.value c.as_slice-in-Some.ensures.value rows) in
+    (same_index size longest tables c.as_slice-rows.result.now p t c.in-Some.index c.as_slice.result.now c.as_slice-in-Some.result.now is c.in-Some.is c.as_slice.ensures.value c.as_slice-in-Some.ensures.value rows) in
     record { plan = a.plan; size = a.usable; room = a.room; lock = c.requires.lock; least = a.least; most = a.most; first = omega arith }
 
 pub returns-in-None : goal.returns-in-None
@@ -63,7 +63,7 @@ returns-in-None g c = λ p is.
     let t = c.args.tree.now in
     let tables = c.args.tables.now in
     let rows : c.as_slice-rows.result.now ≡ rows_at tables t.table = c.as_slice-rows.ensures.value ∙ ap (λ (x : OutTable). x.rows.items) (sym c.index-tables-tree.is)
-        ∙ sym (rows_are tables t.table c.index-tables-tree.result is.there c.index-tables-tree.is) in
+    ∙ sym (rows_are tables t.table c.index-tables-tree.result is.there c.index-tables-tree.is) in
     let a = asks size longest c.args.lock tables _ p t is c.requires.lock (same_rows size longest tables c.as_slice-rows.result.now p t is c.in-None.is rows) in
     let pages = tree_pages size p.tree.kind (number_in size p) p.tree.entries in
     writes_same (ap (λ (f : ℕ → ℕ). paged size f 0 pages) a.number) (c.put_pages.ensures pages a.pages)
@@ -75,8 +75,8 @@ returns-in-Some g c = λ p is.
     let t = c.args.tree.now in
     let tables = c.args.tables.now in
     let rows : c.as_slice-rows.result.now ≡ rows_at tables t.table = c.as_slice-rows.ensures.value ∙ ap (λ (x : OutTable). x.rows.items) (sym c.index-tables-tree.is)
-        ∙ sym (rows_are tables t.table c.index-tables-tree.result is.there c.index-tables-tree.is) in
+    ∙ sym (rows_are tables t.table c.index-tables-tree.result is.there c.index-tables-tree.is) in
     let a = asks size longest c.args.lock tables _ p t is c.requires.lock
-        (same_index size longest tables c.as_slice-rows.result.now p t c.in-Some.index c.as_slice.result.now c.as_slice-in-Some.result.now is c.in-Some.is c.as_slice.ensures.value c.as_slice-in-Some.ensures.value rows) in
+    (same_index size longest tables c.as_slice-rows.result.now p t c.in-Some.index c.as_slice.result.now c.as_slice-in-Some.result.now is c.in-Some.is c.as_slice.ensures.value c.as_slice-in-Some.ensures.value rows) in
     let pages = tree_pages size p.tree.kind (number_in size p) p.tree.entries in
     writes_same (ap (λ (f : ℕ → ℕ). paged size f 0 pages) a.number) (c.put_pages-in-Some.ensures pages a.pages)

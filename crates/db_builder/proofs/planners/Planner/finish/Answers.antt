@@ -21,7 +21,7 @@ returns c = λ db so.
     let lent = length c.in_ok-scratch.scratch.items in
     let len : lent ≡ c.max-most.result = omega (arith, c.in_ok-scratch.ensures.len, c.in_ok-scratch.scratch.ok.0) in
     let es : schema_seen c.as_slice.result.now ≡ schema_entries size all = ap schema_seen c.as_slice.ensures.value
-        ∙ seen_entries size self.longest db.tables.items all self.trees.items so.planned in
+    ∙ seen_entries size self.longest db.tables.items all self.trees.items so.planned in
     let short : HaveAtMost lent (schema_seen c.as_slice.result.now) = λ i lt. let h = c.longest.ensures i lt in omega (arith, h, len, c.max-most.ensures) in
     let schema : IsSchemaPlan size (schema_entries size all) c.in_ok-schema.schema = subst (λ (xs : List Entry). IsSchemaPlan size xs c.in_ok-schema.schema) es c.in_ok-schema.ensures in
     let last : self.before + c.page_count.result - 1 ≡ page_total size all - 1 = omega (arith, so.before, c.page_count.ensures.value, schema.count) in

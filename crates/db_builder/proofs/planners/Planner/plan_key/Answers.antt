@@ -20,7 +20,7 @@ plan_of-requires-clause-entries c =
     let key = parts_seen c.args.key.now in
     let parts : c.in_ok-parts.parts.items ≡ entry_parts (keys_in t) key = c.in_ok-parts.ensures ∙ ap (λ (k : Keys). entry_parts k key) c.requires.keys in
     let es = index_told t key c.as_slice.result.now c.as_slice-2.result.now c.as_slice-rows.result.now c.in_ok-order.order.items c.as_slice-3.result.now
-        (c.as_slice.ensures.value ∙ parts) (c.as_slice-2.ensures.value ∙ parts) c.as_slice-rows.ensures.value c.as_slice-3.ensures.value c.in_ok-order.ensures.order in
+    (c.as_slice.ensures.value ∙ parts) (c.as_slice-2.ensures.value ∙ parts) c.as_slice-rows.ensures.value c.as_slice-3.ensures.value c.in_ok-order.ensures.order in
     subst AreEntries (sym es) c.requires.key.entries
 
 pub plan_of-requires-clause-none : goal.plan_of-requires-clause-none
@@ -46,10 +46,10 @@ returns c =
     let parts : vp ≡ entry_parts (keys_in t) key = c.in_ok-parts.ensures ∙ ap (λ (k : Keys). entry_parts k key) c.requires.keys in
     let seen = index_entries c.as_slice-2.result.now c.as_slice-rows.result.now c.as_slice-3.result.now in
     let es : seen ≡ (key_tree t key).entries = index_told t key c.as_slice.result.now c.as_slice-2.result.now c.as_slice-rows.result.now vo c.as_slice-3.result.now
-        (c.as_slice.ensures.value ∙ parts) (c.as_slice-2.ensures.value ∙ parts) c.as_slice-rows.ensures.value c.as_slice-3.ensures.value c.in_ok-order.ensures.order in
+    (c.as_slice.ensures.value ∙ parts) (c.as_slice-2.ensures.value ∙ parts) c.as_slice-rows.ensures.value c.as_slice-3.ensures.value c.in_ok-order.ensures.order in
     let kept : index_entries vp t.rows.items vo ≡ (key_tree t key).entries = ap (λ (rs : List OutRow). index_entries vp rs vo) (sym c.as_slice-rows.ensures.value)
-        ∙ index_told t key c.as_slice.result.now vp c.as_slice-rows.result.now vo vo
-        (c.as_slice.ensures.value ∙ parts) parts c.as_slice-rows.ensures.value refl c.in_ok-order.ensures.order in
+    ∙ index_told t key c.as_slice.result.now vp c.as_slice-rows.result.now vo vo
+    (c.as_slice.ensures.value ∙ parts) parts c.as_slice-rows.ensures.value refl c.in_ok-order.ensures.order in
     made_is self c.args.number t.rows.items (key_tree t key) _ (key_tree t key).entries refl
     (record {
       few = c.in_ok-order.ensures.few;

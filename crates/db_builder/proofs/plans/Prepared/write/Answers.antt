@@ -78,7 +78,7 @@ returns-in_err-put_trees-clause-writes g c =
     let began = front_as a.whole (front_start (g.O.Sink.bytes c.args.out.now) (g.O.Sink.faults c.args.out.now) (layout size db)) in
     let one = front_step rest began (writes_same a.first c.in_ok-put_first.ensures) in
     let all = zip_by size (length p.scratch.items) (length c.put_first.new.page) (length c.put_first.new.scratch) db.tables.items c.as_slice-tables.result.now ps p.trees.items trees
-        (sym page1) (sym room1) (sym c.as_slice-tables.ensures.value) (sym c.as_slice.ensures.value) c.requires.trees in
+    (sym page1) (sym room1) (sym c.as_slice-tables.ensures.value) (sym c.as_slice.ensures.value) c.requires.trees in
     front_out last c.from_residual-in_err-put_trees.ensures.0 one (writes_same (ap (λ s. flat_map (tree_bytes s) ps) page1) (c.in_err-put_trees.ensures ps all))
 
 pub returns-in_err-put_pages-clause-writes : goal.returns-in_err-put_pages-clause-writes
@@ -96,7 +96,7 @@ returns-in_err-put_pages-clause-writes g c =
     let began = front_as a.whole (front_start (g.O.Sink.bytes c.args.out.now) (g.O.Sink.faults c.args.out.now) (layout size db)) in
     let one = front_step rest began (writes_same a.first c.in_ok-put_first.ensures) in
     let all = zip_by size (length p.scratch.items) (length c.put_first.new.page) (length c.put_first.new.scratch) db.tables.items c.as_slice-tables.result.now ps p.trees.items trees
-        (sym page1) (sym room1) (sym c.as_slice-tables.ensures.value) (sym c.as_slice.ensures.value) c.requires.trees in
+    (sym page1) (sym room1) (sym c.as_slice-tables.ensures.value) (sym c.as_slice.ensures.value) c.requires.trees in
     let two = front_step last one (writes_same (ap (λ s. flat_map (tree_bytes s) ps) page1) (c.in_ok-put_trees.ensures ps all)) in
     let pages = drop 1 (schema_pages [] size (number_of p.start c.lock_of.result) (schema_seen trees)) in
     front_out [] c.from_residual-in_err-put_pages.ensures.0 (front_as (sym (append-nil last)) two)
@@ -117,7 +117,7 @@ returns-clause-writes g c =
     let began = front_as a.whole (front_start (g.O.Sink.bytes c.args.out.now) (g.O.Sink.faults c.args.out.now) (layout size db)) in
     let one = front_step rest began (writes_same a.first c.in_ok-put_first.ensures) in
     let all = zip_by size (length p.scratch.items) (length c.put_first.new.page) (length c.put_first.new.scratch) db.tables.items c.as_slice-tables.result.now ps p.trees.items trees
-        (sym page1) (sym room1) (sym c.as_slice-tables.ensures.value) (sym c.as_slice.ensures.value) c.requires.trees in
+    (sym page1) (sym room1) (sym c.as_slice-tables.ensures.value) (sym c.as_slice.ensures.value) c.requires.trees in
     let two = front_step last one (writes_same (ap (λ s. flat_map (tree_bytes s) ps) page1) (c.in_ok-put_trees.ensures ps all)) in
     let pages = drop 1 (schema_pages [] size (number_of p.start c.lock_of.result) (schema_seen trees)) in
     front_end (front_step [] (front_as (sym (append-nil last)) two)

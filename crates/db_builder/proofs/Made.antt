@@ -1,6 +1,5 @@
 -- A tree that is planned, and the entries of an index in the order of its key.
-use Rattle.std.proofs.Common.{◌≡◌, ◌≤◌, ◌<◌, ◌+◌, ◌-◌, ◌^◌, ℕ, zero, suc, List, [], ◌∷◌, length, map, None, Result, Ok, Err, sym, ap, ◌∙◌, refl, subst, arith}
-use Rattle.std.specs.Prelude.{Option, Some, IfOk}
+use Rattle.std.proofs.Common.{◌≡◌, ◌≤◌, ◌<◌, ◌+◌, ◌-◌, ◌^◌, ℕ, List, [], ◌∷◌, map, sym, ap, ◌∙◌, refl, subst, arith}
 use Rattle.cell_reader.specs.declared.shapes.Kind.{Kind}
 use Rattle.record_core.specs.declared.values.Value.{Value}
 use Rattle.record_core.specs.Shortest.{record_bytes}
@@ -17,29 +16,22 @@ use Rattle.tree_writer.specs.Numbers.{number_of}
 use Rattle.tree_writer.specs.Trees.{IsTreePlan}
 use Rattle.db_builder.specs.declared.plans.MadeTree.{MadeTree}
 use Rattle.db_builder.specs.declared.planners.Planner.{Planner}
-use Rattle.db_builder.specs.Layout.{lock_of, number_in, root_of, row_values, schema_record, start_of}
-use Rattle.db_builder.specs.Prepared.{CanRead, HaveAtMost, IsPlanned, planned_entries, rows_at}
+use Rattle.db_builder.specs.Layout.{lock_of, row_values, schema_record, start_of}
+use Rattle.db_builder.specs.Prepared.{CanRead, HaveAtMost, planned_entries, rows_at}
 use Rattle.db_builder.specs.SoFar.{IsMade, next_placed}
-use Rattle.db_builder.specs.Trees.{Label, Tree, index_entry, key_tree, keys_in, rows_in}
+use Rattle.db_builder.specs.Trees.{Tree, index_entry, key_tree, keys_in, rows_in}
 use Rattle.db_builder.specs.Views.{index_entries, row_at}
+use Rattle.tree_writer.proofs.Adding.{map_map}
 use Rattle.db_builder.proofs.Roots.{root_within}
-
-pub ok_by : {T E : Type 0} (r : Result T E) (P Q : T → Type 0) → ((v : T) → P v → Q v) → IfOk r P → IfOk r Q
-ok_by (Ok v) P Q f h = f v h
-ok_by (Err e) P Q f h = tt
-
-pub through : {X Y Z : Type 0} (f : X → Y) (h : Y → Z) (xs : List X) → map (λ x. h (f x)) xs ≡ map h (map f xs)
-through f h [] = refl
-through f h (x ∷ xs) = ap (λ l. h (f x) ∷ l) (through f h xs)
 
 -- the entries in the order of rows are those of the key
 pub index_same : (t : OutTable) (key : KeyParts) (parts : List KeyPart) (order : List ℕ) → parts ≡ entry_parts (keys_in t) key
     → map (row_at t.rows.items) order ≡ map (λ e. e.1) (in_order (key_of parts) (rows_in t)) → index_entries parts t.rows.items order ≡ (key_tree t key).entries
 index_same t key parts order ps same =
-    through (row_at t.rows.items) (λ r. index_entry (values_of parts r)) order
-    ∙ ap (map (λ r. index_entry (values_of parts r))) same
-    ∙ sym (through (λ e. e.1) (λ r. index_entry (values_of parts r)) (in_order (key_of parts) (rows_in t)))
-    ∙ through (λ (e : List Value × StoredRow). values_of parts e.1) index_entry (in_order (key_of parts) (rows_in t))
+    let by_row : StoredRow → Entry = λ r. index_entry (values_of parts r) in
+    let rows = in_order (key_of parts) (rows_in t) in
+    sym (map_map by_row (row_at t.rows.items) order) ∙ ap (map by_row) same ∙ map_map by_row (λ (e : List Value × StoredRow). e.1) rows
+    ∙ sym (map_map index_entry (λ (e : List Value × StoredRow). values_of parts e.1) rows)
     ∙ ap (λ (qs : List KeyPart). map index_entry (map (λ (e : List Value × StoredRow). values_of qs e.1) (in_order (key_of qs) (rows_in t)))) ps
 
 -- the same, told by the vectors of the program

@@ -1,5 +1,5 @@
 -- The pages of a plan, one after another.
-use Rattle.std.proofs.Common.{◌≡◌, ℕ, zero, suc, ◌+◌, ◌<◌, ◌≤◌, List, [], ◌∷◌, ◌++◌, length, get_or, drop, sym, ap, ◌∙◌, refl, subst, arith, length-append, length-drop, append_assoc, add-one, drop-cons}
+use Rattle.std.proofs.Common.{◌≡◌, ℕ, zero, suc, ◌+◌, ◌<◌, ◌≤◌, List, [], ◌∷◌, ◌++◌, length, get_or, drop, sym, ap, ◌∙◌, refl, arith, length-append, length-drop, append_assoc, add-one, drop-cons}
 use Rattle.std.proofs.lemmas.List.Sums.{sum_by-cons}
 use Rattle.cell_reader.specs.declared.shapes.Kind.{Kind}
 use Rattle.cell_reader.specs.declared.shapes.Kind.TheVariants.{Table}
@@ -8,7 +8,7 @@ use Rattle.tree_writer.specs.Cells.{chain_pages, chains_from, item_overs, overs,
 use Rattle.tree_writer.specs.Entry.{Entry, Item}
 use Rattle.tree_writer.specs.Layout.{pages_from, schema_pages, sheet_pages, tree_pages}
 use Rattle.tree_writer.specs.Levels.{Sheet, pages_in, schema_sheets, schema_top, tree_sheets}
-use Rattle.tree_writer.specs.Trees.{IsPlan, IsSchemaPlan, IsTreePlan}
+use Rattle.tree_writer.specs.Trees.{IsSchemaPlan, IsTreePlan}
 use Rattle.tree_writer.proofs.Chaining.{length-chain}
 use Rattle.tree_writer.proofs.Writing.{length-sheet}
 use Rattle.db_builder.specs.Layout.{gap, paged}

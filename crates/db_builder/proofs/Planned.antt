@@ -1,20 +1,18 @@
 -- What a planned tree's pages are, and what a call that puts them asks.
-use Rattle.std.proofs.Common.{◌≡◌, ◌≤◌, ◌<◌, ◌+◌, ◌-◌, ◌^◌, ℕ, zero, suc, List, [], ◌∷◌, length, get_or, drop, map, None, Some, sym, ap, ◌∙◌, refl, subst, arith}
+use Rattle.std.proofs.Common.{◌≡◌, ◌≤◌, ◌<◌, ◌+◌, ◌-◌, ◌^◌, ℕ, zero, suc, List, [], ◌∷◌, length, get_or, drop, None, Some, sym, ap, ◌∙◌, refl, subst, arith}
 use Rattle.std.specs.List.{AllZip}
 use Rattle.std.proofs.lemmas.List.{get_or-map}
-use Rattle.page_access.specs.Outside.{Writes}
 use Rattle.table_shape.specs.declared.rows.OutRow.{OutRow}
 use Rattle.table_shape.specs.declared.rows.OutTable.{OutTable}
-use Rattle.tree_writer.specs.Entry.{Entry, entry_at}
+use Rattle.tree_writer.specs.Entry.{Entry}
 use Rattle.tree_writer.specs.Layout.{tree_pages}
 use Rattle.tree_writer.specs.Numbers.{number_of}
-use Rattle.tree_writer.specs.Planned.{HasRoom}
 use Rattle.tree_writer.specs.Trees.{IsPlan, OfTree as OfTreePlan}
 use Rattle.table_shape.specs.declared.keys.KeyPart.{KeyPart}
 use Rattle.db_builder.specs.declared.plans.IndexOrder.{IndexOrder}
 use Rattle.db_builder.specs.declared.plans.PlannedTree.{PlannedTree}
 use Rattle.db_builder.specs.Views.{index_entries, row_entries}
-use Rattle.db_builder.specs.Layout.{Placed, lock_of, number_in, paged, tree_bytes}
+use Rattle.db_builder.specs.Layout.{Placed, lock_of, number_in}
 use Rattle.db_builder.specs.Prepared.{AreReadable, CanRead, HaveAtMost, IsPlanned, IsReadable, planned_entries, rows_at}
 use Rattle.db_builder.specs.Written.{ArePages, OfTree}
 

@@ -1,11 +1,10 @@
 -- The root of a tree is one of its pages.
-use Rattle.std.proofs.Common.{◌≡◌, ◌≤◌, ◌<◌, ◌+◌, ◌-◌, ℕ, zero, suc, Bool, true, false, nat_le, List, [], ◌∷◌, ◌++◌, length, sym, ap, ◌∙◌, refl, arith}
+use Rattle.std.proofs.Common.{◌≡◌, ◌<◌, ◌+◌, ℕ, zero, suc, Bool, true, false, nat_le, List, [], ◌∷◌, ◌++◌, length, arith}
 use Rattle.std.specs.Prelude.{if◌then◌else◌}
 use Rattle.std.proofs.lemmas.List.Sums.{sum_by-append}
 use Rattle.cell_reader.specs.declared.shapes.Kind.{Kind}
 use Rattle.tree_writer.specs.Cells.{width_of}
 use Rattle.tree_writer.specs.Entry.{Entry, Item}
-use Rattle.tree_writer.specs.Groups.{Cut}
 use Rattle.tree_writer.specs.Levels.{Line, Sheet, leaf_cut, leaf_line, level_cut, level_sheets, line_above, line_from, needs, pages_in, sheets_of, top_line, tree_line, tree_sheets}
 use Rattle.tree_writer.specs.Trees.{tree_count}
 use Rattle.tree_writer.proofs.Rising.{line_pages}

@@ -1,5 +1,5 @@
 -- Trees that are planned one behind another.
-use Rattle.std.proofs.Common.{◌≡◌, ◌≤◌, ◌<◌, ◌+◌, ◌++◌, ◌^◌, ℕ, zero, suc, List, [], ◌∷◌, length, map, take, get_or, pos, sym, ap, ◌∙◌, refl, subst, arith, append_assoc}
+use Rattle.std.proofs.Common.{◌≡◌, ◌≤◌, ◌<◌, ◌+◌, ◌++◌, ℕ, zero, suc, List, [], ◌∷◌, length, map, take, get_or, pos, sym, ap, ◌∙◌, refl, subst, arith, append_assoc}
 use Rattle.std.specs.Prelude.{Some, None, Option, ℤ, ◌<ℤ◌}
 use Rattle.std.specs.List.{AllByRecursion, AllZip, flat_map}
 use Rattle.std.proofs.lemmas.List.{append-nil}
@@ -12,7 +12,7 @@ use Rattle.db_builder.specs.declared.plans.MadeTree.{MadeTree}
 use Rattle.db_builder.specs.declared.plans.PlannedTree.{PlannedTree}
 use Rattle.db_builder.specs.declared.planners.Planner.{Planner}
 use Rattle.db_builder.specs.Layout.{Placed, numbered, pages_of_trees, placed, start_of}
-use Rattle.db_builder.specs.Prepared.{HaveAtMost, IsPlanned, rows_at}
+use Rattle.db_builder.specs.Prepared.{IsPlanned, rows_at}
 use Rattle.db_builder.specs.SoFar.{IsMade, IsSoFar, next_placed}
 use Rattle.db_builder.specs.Trees.{Tree}
 
@@ -45,12 +45,6 @@ zip-append R [] [] x y all h = (h, tt)
 zip-append R [] (z ∷ ys) x y all h = absurd all
 zip-append R (w ∷ xs) [] x y all h = absurd all
 zip-append R (w ∷ xs) (z ∷ ys) x y all h = (all.0, zip-append R xs ys x y all.1 h)
-
-pub zip_len : {A B : Type 0} (R : A → B → Type 0) (xs : List A) (ys : List B) → AllZip R xs ys → length xs ≡ length ys
-zip_len R [] [] all = refl
-zip_len R [] (y ∷ ys) all = absurd all
-zip_len R (x ∷ xs) [] all = absurd all
-zip_len R (x ∷ xs) (y ∷ ys) all = ap suc (zip_len R xs ys all.1)
 
 -- one more tree stands behind the pages of the others
 placed-append : (size before : ℕ) (ts : List Tree) (t : Tree)

@@ -3,7 +3,7 @@ use Rattle.std.proofs.Common.{◌≡◌, ℕ, zero, suc, ◌+◌, ◌<◌, pos, 
 use Rattle.std.proofs.lemmas.List.{get_or-map, length-map}
 use Rattle.table_shape.specs.declared.rows.OutRow.{OutRow}
 use Rattle.table_shape.specs.Seen.{row_seen}
-use Rattle.tree_writer.specs.Entry.{Entry, entry_at, no_entry}
+use Rattle.tree_writer.specs.Entry.{entry_at, no_entry}
 use Rattle.db_builder.specs.declared.plans.PlannedTree.{PlannedTree}
 use Rattle.db_builder.specs.Layout.{numbered}
 use Rattle.db_builder.specs.Prepared.{record_in, records_of, schema_seen}

@@ -1,11 +1,11 @@
 -- A prepared database, and the whole file.
-use Rattle.std.proofs.Common.{◌≡◌, ◌≤◌, ◌<◌, ◌+◌, ◌++◌, ℕ, zero, suc, List, [], ◌∷◌, length, get_or, drop, map, sym, ap, ◌∙◌, refl, subst, arith}
+use Rattle.std.proofs.Common.{◌≡◌, ◌≤◌, ◌++◌, ℕ, List, [], ◌∷◌, length, get_or, drop, map, sym, ap, ◌∙◌, refl, subst, arith}
 use Rattle.std.specs.List.{AllZip, flat_map}
 use Rattle.table_shape.specs.declared.rows.OutTable.{OutTable}
 use Rattle.tree_writer.specs.Entry.{Entry}
 use Rattle.tree_writer.specs.Layout.{schema_pages}
 use Rattle.tree_writer.specs.Numbers.{number_of}
-use Rattle.tree_writer.specs.Trees.{IsPlan, IsSchemaPlan, OfSchema as OfSchemaPlan}
+use Rattle.tree_writer.specs.Trees.{IsSchemaPlan}
 use Rattle.db_builder.specs.declared.databases.OutDb.{OutDb}
 use Rattle.db_builder.specs.declared.plans.PlannedTree.{PlannedTree}
 use Rattle.db_builder.specs.declared.plans.Prepared.{Prepared}

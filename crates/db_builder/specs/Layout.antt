@@ -10,7 +10,7 @@ use Rattle.tree_writer.specs.Levels.{tree_line}
 use Rattle.tree_writer.specs.Numbers.{number_of}
 use Rattle.tree_writer.specs.Trees.{schema_count, tree_count}
 use Rattle.db_builder.specs.declared.databases.OutDb.{OutDb}
-use Rattle.db_builder.specs.Header.{Said, header_bytes}
+use Rattle.db_builder.specs.Header.{header_bytes}
 use Rattle.db_builder.specs.Trees.{Label, Tree, trees_of}
 
 -- the number of the lock-byte page, which holds byte 2^30 of a file (fileformat2.html, 1.4)

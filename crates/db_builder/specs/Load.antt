@@ -1,5 +1,5 @@
 -- The load of a database, by which it is too large or not (docs/FORMAT.md, "Layout of a written file").
-use Rattle.std.specs.Prelude.{ℕ, ◌+◌, ◌-◌, ◌^◌, min, List, length, map, sum_by}
+use Rattle.std.specs.Prelude.{ℕ, ◌+◌, ◌-◌, ◌^◌, min, List, length, sum_by}
 use Rattle.record_core.specs.declared.values.Value.{Value}
 use Rattle.record_core.specs.Shortest.{record_bytes}
 use Rattle.table_shape.specs.declared.rows.OutTable.{OutTable}

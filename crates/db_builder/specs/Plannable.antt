@@ -1,5 +1,5 @@
 -- What a plan asks of a database: that its records can be written, and that its trees are not too large.
-use Rattle.std.specs.Prelude.{◌≡◌, ◌<◌, ℕ, ◌^◌, true, false, None, List, length}
+use Rattle.std.specs.Prelude.{◌≡◌, ◌<◌, ℕ, ◌^◌, true, false, None, length}
 use Rattle.std.specs.List.{AllByRecursion}
 use Rattle.record_core.specs.Shortest.{IsWritable}
 use Rattle.table_shape.specs.declared.rows.OutTable.{OutTable}

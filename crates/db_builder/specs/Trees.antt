@@ -1,5 +1,5 @@
 -- The trees of a written file but the schema's own (docs/FORMAT.md, "Layout of a written file").
-use Rattle.std.specs.Prelude.{ℕ, ℤ, Option, Some, None, Bool, if◌then◌else◌, codes, List, [], ◌∷◌, map}
+use Rattle.std.specs.Prelude.{ℕ, None, Bool, if◌then◌else◌, codes, List, ◌∷◌, map}
 use Rattle.std.specs.List.{flat_map}
 use Rattle.cell_reader.specs.declared.shapes.Kind.{Kind}
 use Rattle.cell_reader.specs.declared.shapes.Kind.TheVariants.{Table, Index}
@@ -11,7 +11,6 @@ use Rattle.table_shape.specs.Entries.{entries_of}
 use Rattle.table_shape.specs.Keys.{KeyParts, Keys, StoredRow, keys_of}
 use Rattle.table_shape.specs.Names.{index_name}
 use Rattle.table_shape.specs.Seen.{row_seen, shape_seen}
-use Rattle.table_shape.specs.Shape.{Shape}
 use Rattle.tree_writer.specs.Entry.{Entry}
 
 -- what the schema says of a tree: its type, its name, its table, and its text, if it has one

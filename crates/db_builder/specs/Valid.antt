@@ -1,5 +1,5 @@
 -- What can be written (docs/FORMAT.md, "A well-formed file").
-use Rattle.std.specs.Prelude.{◌≡◌, Bool, false, not, is_some, List, map}
+use Rattle.std.specs.Prelude.{◌≡◌, false, not, is_some, map}
 use Rattle.std.specs.List.{AllByRecursion, IsDistinct}
 use Rattle.create_reader.specs.Outcome.{IsTableText}
 use Rattle.table_shape.specs.declared.rows.OutTable.{OutTable}

@@ -1,5 +1,5 @@
 -- Entries as views over the given rows.
-use Rattle.std.specs.Prelude.{◌≡◌, ◌<◌, ℕ, Option, None, List, [], length, map, slice_index_or}
+use Rattle.std.specs.Prelude.{◌<◌, ℕ, None, List, [], length, map, slice_index_or}
 use Rattle.record_core.specs.declared.values.Value.{Value}
 use Rattle.record_core.specs.Shortest.{IsWritable}
 use Rattle.table_shape.specs.declared.keys.KeyPart.{KeyPart}

@@ -1,10 +1,6 @@
-use Rattle.std.proofs.Common.{◌≡◌, ◌∙◌, ◌-◌, ap, sym, subst, refl, arith, map, length, get_or, List, ℕ}
-use Rattle.std.specs.Prelude.{IfOk}
-use Rattle.table_shape.specs.declared.rows.OutRow.{OutRow}
-use Rattle.table_shape.specs.Keys.{key_of}
-use Rattle.table_shape.specs.Seen.{row_seen}
+use Rattle.std.proofs.Common.{◌≡◌, ◌∙◌, ◌-◌, ap, sym, subst, arith, map, length, List, ℕ}
 use Rattle.db_builder.specs.Views.{NamesRows, row_at}
-use Rattle.db_builder.proofs.Made.{ok_by}
+use Rattle.std.proofs.lemmas.Result.{IfOk-weaker}
 use Rattle.db_builder.proofs.Ordered.{Mapped, mapped_few, mapped_more, mapped_order, mapped_start, mapped_there}
 use Rattle.db_builder.proofs.orders.order_of.Goals as goal
 
@@ -21,7 +17,7 @@ returns c =
     let none : c.rows.i ≡ 0 = omega (arith, c.rows-test.false) in
     let m : Mapped c.args.parts.now c.args.rows.now 0 c.rows.numbers.entries = subst (λ (n : ℕ). Mapped c.args.parts.now c.args.rows.now n c.rows.numbers.entries) none c.rows.invariant in
     record {
-      order = ok_by c.in_order.result _ _ (λ v e. ap (map (row_at c.args.rows.now)) e ∙ mapped_order c.args.parts.now c.args.rows.now _ m) c.in_order.ensures;
-      there = ok_by c.in_order.result _ _ (λ v e. subst (λ (xs : List ℕ). NamesRows xs (length c.args.rows.now)) (sym e) (mapped_there c.args.parts.now c.args.rows.now 0 _ m)) c.in_order.ensures;
-      few = ok_by c.in_order.result _ _ (λ v e. omega (arith, ap length e, mapped_few c.args.parts.now c.args.rows.now 0 _ m, c.requires)) c.in_order.ensures;
+      order = IfOk-weaker c.in_order.result _ _ (λ v e. ap (map (row_at c.args.rows.now)) e ∙ mapped_order c.args.parts.now c.args.rows.now _ m) c.in_order.ensures;
+      there = IfOk-weaker c.in_order.result _ _ (λ v e. subst (λ (xs : List ℕ). NamesRows xs (length c.args.rows.now)) (sym e) (mapped_there c.args.parts.now c.args.rows.now 0 _ m)) c.in_order.ensures;
+      few = IfOk-weaker c.in_order.result _ _ (λ v e. omega (arith, ap length e, mapped_few c.args.parts.now c.args.rows.now 0 _ m, c.requires)) c.in_order.ensures;
     }

@@ -1,4 +1,4 @@
-use Rattle.std.proofs.Common.{◌≡◌, ◌∙◌, ◌<◌, ℕ, List, ap, sym, subst, arith, length}
+use Rattle.std.proofs.Common.{◌≡◌, ◌∙◌, ℕ, List, ap, sym, subst, arith}
 use Rattle.table_shape.specs.declared.rows.OutTable.{OutTable}
 use Rattle.tree_writer.specs.Entry.{AreEntries}
 use Rattle.db_builder.specs.declared.plans.Prepared.{Prepared}
@@ -6,8 +6,9 @@ use Rattle.db_builder.specs.Layout.{placed, schema_entries}
 use Rattle.db_builder.specs.Prepared.{IsPlanned, IsPrepared, schema_seen}
 use Rattle.db_builder.specs.SoFar.{IsSoFar}
 use Rattle.db_builder.specs.Trees.{trees_of}
-use Rattle.db_builder.proofs.Made.{ok_by}
-use Rattle.db_builder.proofs.Taking.{placed_len, zip_len}
+use Rattle.std.proofs.lemmas.Result.{IfOk-weaker}
+use Rattle.db_builder.proofs.Taking.{placed_len}
+use Rattle.std.proofs.lemmas.Slice.Zip.{AllZip-long}
 use Rattle.db_builder.proofs.Whole.{seen_entries}
 use Rattle.db_builder.proofs.plans.plan_file.Goals as goal
 
@@ -23,7 +24,7 @@ finish-requires c =
         arith,
         c.requires.can.few,
         placed_len p.page_size 0 (trees_of tables),
-        zip_len (IsPlanned p.page_size tables p.longest) (placed p.page_size 0 (trees_of tables)) p.trees.items so.planned,
+        AllZip-long (IsPlanned p.page_size tables p.longest) (placed p.page_size 0 (trees_of tables)) p.trees.items so.planned,
       );
       entries = subst AreEntries (sym es) c.requires.can.schema;
     }
@@ -35,6 +36,6 @@ returns c =
     let tables = db.tables.items in
     let so : IsSoFar tables (trees_of tables) p = subst (λ (ts : List OutTable). IsSoFar ts (trees_of ts) p) c.as_slice.ensures.value c.in_ok-planner.ensures.1 in
     record {
-      size = ok_by c.finish.result _ _ (λ (x : Prepared) h. (h db so).size_is ∙ c.in_ok-planner.ensures.0) c.finish.ensures;
-      prepared = ok_by c.finish.result _ _ (λ (x : Prepared) h. subst (λ (n : ℕ). IsPrepared n db x) (sym (h db so).size_is) (h db so)) c.finish.ensures;
+      size = IfOk-weaker c.finish.result _ _ (λ (x : Prepared) h. (h db so).size_is ∙ c.in_ok-planner.ensures.0) c.finish.ensures;
+      prepared = IfOk-weaker c.finish.result _ _ (λ (x : Prepared) h. subst (λ (n : ℕ). IsPrepared n db x) (sym (h db so).size_is) (h db so)) c.finish.ensures;
     }

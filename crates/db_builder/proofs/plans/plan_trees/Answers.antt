@@ -1,5 +1,5 @@
-use Rattle.std.proofs.Common.{◌≡◌, ◌∙◌, ◌+◌, ◌++◌, ℕ, suc, List, [], ap, sym, subst, refl, arith, length, take, add-one}
-use Rattle.std.specs.List.{AllZip, flat_map}
+use Rattle.std.proofs.Common.{◌≡◌, ◌∙◌, ◌+◌, ◌++◌, List, [], ap, sym, subst, refl, arith, take, add-one}
+use Rattle.std.specs.List.{AllZip}
 use Rattle.std.proofs.lemmas.List.{take_all}
 use Rattle.table_shape.specs.declared.rows.OutTable.{OutTable}
 use Rattle.db_builder.specs.declared.plans.PlannedTree.{PlannedTree}

@@ -1,4 +1,4 @@
-use Rattle.std.proofs.Common.{◌≡◌, ◌∙◌, List, ℕ, ap, sym, arith, length, take, get_or}
+use Rattle.std.proofs.Common.{◌≡◌, ◌∙◌, ap, sym, arith, length, take, get_or}
 use Rattle.std.specs.Prelude.{[]}
 use Rattle.page_access.proofs.Gains.{writes_same}
 use Rattle.tree_writer.specs.Layout.{schema_pages}

@@ -1,7 +1,6 @@
-use Rattle.std.proofs.Common.{◌≡◌, ◌∙◌, ◌+◌, ◌++◌, ℕ, List, [], ap, sym, take, length, get_or}
+use Rattle.std.proofs.Common.{◌∙◌, ◌++◌, [], ap, sym, take, length, get_or}
 use Rattle.std.proofs.lemmas.List.{append-nil}
 use Rattle.page_access.proofs.Gains.{front_as, front_end, front_out, front_start, front_step}
-use Rattle.tree_writer.specs.Numbers.{number_of}
 use Rattle.db_builder.specs.Layout.{gap}
 use Rattle.db_builder.proofs.Paging.{page_is}
 use Rattle.db_builder.proofs.writes.put_one.Goals as goal

@@ -1,4 +1,4 @@
-use Rattle.std.proofs.Common.{◌≡◌, ◌∙◌, ◌+◌, ◌++◌, ◌<◌, ◌≤◌, ℕ, List, [], ap, sym, arith, drop, length, get_or}
+use Rattle.std.proofs.Common.{◌∙◌, ◌+◌, ◌++◌, ◌<◌, ◌≤◌, [], ap, sym, arith, drop, length, get_or}
 use Rattle.page_access.proofs.Gains.{front_as, front_end, front_out, front_start, front_step}
 use Rattle.tree_writer.specs.Numbers.{number_of}
 use Rattle.db_builder.specs.Layout.{gap, paged}

@@ -1,4 +1,4 @@
-use Rattle.std.proofs.Common.{◌≡◌, ℕ, ◌+◌, List, drop, length}
+use Rattle.std.proofs.Common.{ℕ, List, drop, length}
 use Rattle.page_access.proofs.Gains.{WroteFront}
 use Rattle.tree_writer.specs.Numbers.{number_of}
 use Rattle.tree_writer.specs.Planned.{IsHeld}

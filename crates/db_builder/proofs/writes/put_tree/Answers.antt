@@ -1,13 +1,13 @@
-use Rattle.std.proofs.Common.{◌≡◌, ◌∙◌, ◌<◌, ℕ, List, length, get_or, ap, sym, subst, arith}
+use Rattle.std.proofs.Common.{◌≡◌, ◌∙◌, ◌<◌, ℕ, List, length, ap, sym, subst, arith}
 use Rattle.page_access.proofs.Gains.{writes_same}
 use Rattle.table_shape.specs.declared.rows.OutRow.{OutRow}
 use Rattle.table_shape.specs.declared.rows.OutTable.{OutTable}
 use Rattle.table_shape.specs.declared.keys.KeyPart.{KeyPart}
 use Rattle.tree_writer.specs.Layout.{tree_pages}
-use Rattle.db_builder.specs.Layout.{Placed, number_in, paged}
-use Rattle.db_builder.specs.Prepared.{IsPlanned, rows_at}
+use Rattle.db_builder.specs.Layout.{number_in, paged}
+use Rattle.db_builder.specs.Prepared.{rows_at}
 use Rattle.db_builder.specs.Views.{HaveIndexRecords, NamesRows}
-use Rattle.db_builder.proofs.Planned.{Asks, asks, can_index, rows_are, same_index, same_rows}
+use Rattle.db_builder.proofs.Planned.{asks, can_index, rows_are, same_index, same_rows}
 use Rattle.db_builder.proofs.writes.put_tree.Goals as goal
 
 pub put_pages-requires : goal.put_pages-requires

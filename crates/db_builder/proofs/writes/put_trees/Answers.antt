@@ -1,7 +1,7 @@
-use Rattle.std.proofs.Common.{◌≡◌, ◌∙◌, ◌+◌, ◌<◌, ℕ, List, length, get_or, drop, ap, sym, subst, arith}
+use Rattle.std.proofs.Common.{◌∙◌, ◌+◌, length, drop, ap, sym, arith}
 use Rattle.std.specs.List.{flat_map}
 use Rattle.page_access.proofs.Gains.{front_as, front_end, front_out, front_start, front_step, writes_same}
-use Rattle.db_builder.specs.Layout.{Placed, lock_of, tree_bytes}
+use Rattle.db_builder.specs.Layout.{lock_of, tree_bytes}
 use Rattle.db_builder.specs.Prepared.{IsPlanned}
 use Rattle.db_builder.proofs.Planned.{planned_by, zip_at, zip_end}
 use Rattle.db_builder.proofs.writes.put_trees.Goals as goal

@@ -1,5 +1,5 @@
 use Rattle.std.proofs.Common.{◌≡◌, ℕ, zero, suc, None, List, [], ◌∷◌, map, refl, sym}
-use Rattle.tree_writer.specs.Entry.{Entry, entry_at}
+use Rattle.tree_writer.specs.Entry.{entry_at}
 use Rattle.db_builder.specs.Trees.{index_entry}
 use Rattle.record_core.specs.declared.values.Value.{Value}
 use Rattle.table_shape.specs.Keys.{values_of}

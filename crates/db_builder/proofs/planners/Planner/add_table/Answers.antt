@@ -1,13 +1,13 @@
-use Rattle.std.proofs.Common.{◌≡◌, ◌∙◌, ◌+◌, ◌++◌, ◌≤◌, ℕ, List, [], ◌∷◌, ap, sym, subst, arith, length, map, take, get_or, append_assoc}
+use Rattle.std.proofs.Common.{◌≡◌, ◌∙◌, ◌+◌, ◌++◌, List, [], ◌∷◌, ap, sym, subst, map, take, append_assoc}
 use Rattle.std.proofs.lemmas.List.{map_more, take_all}
 use Rattle.table_shape.specs.declared.keys.KeyPlan.{KeyPlan}
 use Rattle.table_shape.specs.declared.rows.OutRow.{OutRow}
-use Rattle.table_shape.specs.Keys.{KeyParts, Keys, parts_seen}
+use Rattle.table_shape.specs.Keys.{Keys, parts_seen}
 use Rattle.std.specs.List.{AllByRecursion}
 use Rattle.db_builder.specs.Plannable.{IsKeyPlannable}
 use Rattle.db_builder.specs.SoFar.{IsMade, IsSoFar}
-use Rattle.db_builder.specs.Trees.{Tree, key_tree, table_tree, table_trees}
-use Rattle.db_builder.proofs.Made.{through}
+use Rattle.db_builder.specs.Trees.{Tree, key_tree, table_tree}
+use Rattle.tree_writer.proofs.Adding.{map_map}
 use Rattle.db_builder.proofs.Taking.{all_at}
 use Rattle.db_builder.proofs.planners.Planner.add_table.Goals as goal
 
@@ -59,7 +59,7 @@ returns c = record {
       let items = c.as_slice-key-items.result.now in
       let i = c.loop-key.key-index in
       let whole : map f (take i items) ≡ map (key_tree t) (map parts_seen c.in_ok-keys.keys.keys.items) =
-      ap (map f) (take_all i items c.loop-key-test.false) ∙ ap (map f) c.as_slice-key-items.ensures.value ∙ through parts_seen (key_tree t) c.in_ok-keys.keys.keys.items in
+      ap (map f) (take_all i items c.loop-key-test.false) ∙ ap (map f) c.as_slice-key-items.ensures.value ∙ sym (map_map (key_tree t) parts_seen c.in_ok-keys.keys.keys.items) in
       let all = ap (λ (ks : Keys). map (key_tree t) ks.keys) c.in_ok-keys.ensures in
       subst (λ (xs : List Tree). IsSoFar tables xs c.loop-key.self) (ap (λ l. done ++ table_tree t ∷ l) (whole ∙ all)) (c.loop-key.invariant.1 tables done lt same so);
 }

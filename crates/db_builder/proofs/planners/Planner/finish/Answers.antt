@@ -1,4 +1,4 @@
-use Rattle.std.proofs.Common.{◌≡◌, ◌∙◌, ◌+◌, ◌-◌, ◌≤◌, ℕ, List, ap, sym, subst, refl, arith, length, max}
+use Rattle.std.proofs.Common.{◌≡◌, ◌∙◌, ◌+◌, ◌-◌, List, ap, subst, refl, arith, length}
 use Rattle.tree_writer.specs.Entry.{Entry}
 use Rattle.tree_writer.specs.Numbers.{number_of}
 use Rattle.tree_writer.specs.Trees.{IsSchemaPlan}

@@ -1,4 +1,4 @@
-use Rattle.std.proofs.Common.{◌≡◌, ◌∙◌, ◌+◌, ◌<◌, ℕ, List, ap, sym, subst, refl, arith, length, map}
+use Rattle.std.proofs.Common.{◌≡◌, ◌∙◌, List, ap, sym, subst, refl, length}
 use Rattle.cell_reader.specs.declared.shapes.Kind.TheVariants.{Index}
 use Rattle.table_shape.specs.declared.keys.KeyPart.{KeyPart}
 use Rattle.table_shape.specs.declared.rows.OutRow.{OutRow}

@@ -1,5 +1,5 @@
 -- One page after another is put, and all are the layout.
-use Rattle.std.proofs.Common.{◌≡◌, ◌∙◌, ◌++◌, ℕ, List, [], ap, sym, subst, drop, length}
+use Rattle.std.proofs.Common.{◌≡◌, ◌∙◌, ◌++◌, [], ap, sym, subst, drop, length}
 use Rattle.std.specs.List.{flat_map}
 use Rattle.std.proofs.lemmas.List.{append-nil}
 use Rattle.page_access.proofs.Gains.{front_as, front_end, front_out, front_start, front_step, writes_same}
@@ -9,7 +9,7 @@ use Rattle.tree_writer.specs.Trees.{OfSchema}
 use Rattle.db_builder.specs.Layout.{layout, paged, placed, tree_bytes}
 use Rattle.db_builder.specs.Prepared.{HaveAtMost, schema_seen}
 use Rattle.db_builder.specs.Trees.{trees_of}
-use Rattle.db_builder.proofs.Whole.{SchemaAsks, schema_asks, zip_by}
+use Rattle.db_builder.proofs.Whole.{schema_asks, zip_by}
 use Rattle.db_builder.proofs.plans.Prepared.write.Goals as goal
 
 pub put_first-requires-clause-plan : goal.put_first-requires-clause-plan

@@ -1,4 +1,4 @@
-use Rattle.std.proofs.Common.{◌∙◌, Some, ap, sym, refl, arith, rules, ◌<◌, ◌≤◌, length}
+use Rattle.std.proofs.Common.{◌∙◌, Some, ap, sym, refl, arith, rules}
 use Rattle.std.proofs.lemmas.Int.{to_z-of_z}
 use Rattle.std.specs.Int.{w64}
 use Rattle.tree_writer.specs.Entry.{Entry}

@@ -77,8 +77,9 @@ pub struct IndexEntries<'a> {
 impl<'a> IndexEntries<'a> {
     fn fields(&self, i: u32) -> IndexFields<'a>
         requires { i < length self.now.order.now }
-        ensures { map (λ p. spot_value result.rowid result.null result.row.now.fields.items p.spot) result.parts.now
-            ≡ values_of self.now.parts.now (row_at self.now.rows.now (slice_index_or self.now.order.now i 0)) }
+        ensures { map (λ p. spot_value result.rowid result.null result.row.now.fields.items p.spot)
+            result.parts.now ≡ values_of self.now.parts.now
+            (row_at self.now.rows.now (slice_index_or self.now.order.now i 0)) }
     {
         index_fields(&self.rows[self.order[i as usize] as usize], self.parts)
     }

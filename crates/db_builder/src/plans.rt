@@ -93,7 +93,8 @@ pub fn plan_file(alloc: Global, db: &OutDb, page_size: u32) -> Result<Prepared, 
 fn plan_trees(alloc: Global, tables: &[OutTable], page_size: u32) -> Result<Planner, AllocError>
     requires least { 512 ≤ page_size }
     requires most { page_size ≤ 65536 }
-    requires can { (t : OutTable) (i : ℕ) → i < length tables.now → t ≡ slice_index_or tables.now i t → IsPlannable t }
+    requires can { (t : OutTable) (i : ℕ) → i < length tables.now
+        → t ≡ slice_index_or tables.now i t → IsPlannable t }
     ensures { IfOk result (λ p. (p.page_size ≡ page_size) × IsSoFar tables.now (trees_of tables.now) p) }
 {
     let mut planner = Planner {

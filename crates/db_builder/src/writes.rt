@@ -29,7 +29,8 @@ impl Prepared {
     /// Takes no memory.
     pub fn write<O: Sink>(&mut self, db: &OutDb, out: &mut O) -> Result<u32, Failed>
         requires { IsPrepared self.old.page_size db.now self.old }
-        ensures pages { IfOk result (λ n. n ≡ last_page self.old.page_size (trees_of db.now.tables.items)) }
+        ensures pages { IfOk result (λ n. n
+            ≡ last_page self.old.page_size (trees_of db.now.tables.items)) }
         ensures writes { Writes (O.bytes out.old) (O.bytes out.new) (O.faults out.old)
             (O.faults out.new) (layout self.old.page_size db.now) result }
     {
@@ -120,7 +121,8 @@ fn put_tree<O: Sink>(
     out: &mut O,
 ) -> Result<(), Failed>
     requires lock { lock ≡ lock_of (length page.old) }
-    requires planned { (p : Placed) × IsPlanned (length page.old) tables.now (length scratch.old) p tree.now }
+    requires planned { (p : Placed)
+        × IsPlanned (length page.old) tables.now (length scratch.old) p tree.now }
     ensures { (p : Placed) → IsPlanned (length page.old) tables.now (length scratch.old) p tree.now
         → Writes (O.bytes out.old) (O.bytes out.new) (O.faults out.old) (O.faults out.new)
         (tree_bytes (length page.old) p) result }

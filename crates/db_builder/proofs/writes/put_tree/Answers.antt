@@ -1,0 +1,82 @@
+use Rattle.std.proofs.Common.{◌≡◌, ◌∙◌, ◌<◌, ℕ, List, length, ap, sym, subst, arith}
+use Rattle.page_access.proofs.Gains.{writes_same}
+use Rattle.table_shape.specs.declared.rows.OutRow.{OutRow}
+use Rattle.table_shape.specs.declared.rows.OutTable.{OutTable}
+use Rattle.table_shape.specs.declared.keys.KeyPart.{KeyPart}
+use Rattle.tree_writer.specs.Layout.{tree_pages}
+use Rattle.db_builder.specs.Layout.{number_in, paged}
+use Rattle.db_builder.specs.Prepared.{rows_at}
+use Rattle.db_builder.specs.Views.{HaveIndexRecords, NamesRows}
+use Rattle.db_builder.proofs.Planned.{asks, can_index, rows_are, same_index, same_rows}
+use Rattle.db_builder.proofs.writes.put_tree.Goals as goal
+
+pub put_pages-requires : goal.put_pages-requires
+put_pages-requires g c =
+    let size = length c.args.page.now in
+    let longest = length c.args.scratch.now in
+    let t = c.args.tree.now in
+    let tables = c.args.tables.now in
+    let p = c.requires.planned.0 in
+    let is = c.requires.planned.1 in
+    let rows : c.as_slice-rows.result.now ≡ rows_at tables t.table = c.as_slice-rows.ensures.value ∙ ap (λ (x : OutTable). x.rows.items) (sym c.index-tables-tree.is)
+    ∙ sym (rows_are tables t.table c.index-tables-tree.result is.there c.index-tables-tree.is) in
+    let a = asks size longest c.args.lock tables _ p t is c.requires.lock (same_rows size longest tables c.as_slice-rows.result.now p t is c.in-None.is rows) in
+    record { plan = a.plan; size = a.usable; room = a.room; lock = c.requires.lock; least = a.least; most = a.most; first = omega arith }
+
+pub invariant_of-entries-in-Some : goal.invariant_of-entries-in-Some
+invariant_of-entries-in-Some g c =
+    let size = length c.args.page.now in
+    let longest = length c.args.scratch.now in
+    let t = c.args.tree.now in
+    let tables = c.args.tables.now in
+    let p = c.requires.planned.0 in
+    let is = c.requires.planned.1 in
+    let rows : c.as_slice-rows.result.now ≡ rows_at tables t.table = c.as_slice-rows.ensures.value ∙ ap (λ (x : OutTable). x.rows.items) (sym c.index-tables-tree.is)
+    ∙ sym (rows_are tables t.table c.index-tables-tree.result is.there c.index-tables-tree.is) in
+    let can = can_index size longest tables p t c.in-Some.index is c.in-Some.is in
+    record {
+      few = subst (λ (xs : List ℕ). length xs < 4294967296) (sym c.as_slice-in-Some.ensures.value) can.few;
+      there = subst (λ (xs : List ℕ). NamesRows xs (length c.as_slice-rows.result.now)) (sym c.as_slice-in-Some.ensures.value)
+          (subst (λ (rs : List OutRow). NamesRows c.in-Some.index.order.items (length rs)) (sym rows) can.there);
+      writable = subst (λ (ps : List KeyPart). HaveIndexRecords ps c.as_slice-rows.result.now) (sym c.as_slice.ensures.value)
+          (subst (λ (rs : List OutRow). HaveIndexRecords c.in-Some.index.parts.items rs) (sym rows) can.writable);
+    }
+
+pub put_pages-requires-in-Some : goal.put_pages-requires-in-Some
+put_pages-requires-in-Some g c =
+    let size = length c.args.page.now in
+    let longest = length c.args.scratch.now in
+    let t = c.args.tree.now in
+    let tables = c.args.tables.now in
+    let p = c.requires.planned.0 in
+    let is = c.requires.planned.1 in
+    let rows : c.as_slice-rows.result.now ≡ rows_at tables t.table = c.as_slice-rows.ensures.value ∙ ap (λ (x : OutTable). x.rows.items) (sym c.index-tables-tree.is)
+    ∙ sym (rows_are tables t.table c.index-tables-tree.result is.there c.index-tables-tree.is) in
+    let a = asks size longest c.args.lock tables _ p t is c.requires.lock
+    (same_index size longest tables c.as_slice-rows.result.now p t c.in-Some.index c.as_slice.result.now c.as_slice-in-Some.result.now is c.in-Some.is c.as_slice.ensures.value c.as_slice-in-Some.ensures.value rows) in
+    record { plan = a.plan; size = a.usable; room = a.room; lock = c.requires.lock; least = a.least; most = a.most; first = omega arith }
+
+pub returns-in-None : goal.returns-in-None
+returns-in-None g c = λ p is.
+    let size = length c.args.page.now in
+    let longest = length c.args.scratch.now in
+    let t = c.args.tree.now in
+    let tables = c.args.tables.now in
+    let rows : c.as_slice-rows.result.now ≡ rows_at tables t.table = c.as_slice-rows.ensures.value ∙ ap (λ (x : OutTable). x.rows.items) (sym c.index-tables-tree.is)
+    ∙ sym (rows_are tables t.table c.index-tables-tree.result is.there c.index-tables-tree.is) in
+    let a = asks size longest c.args.lock tables _ p t is c.requires.lock (same_rows size longest tables c.as_slice-rows.result.now p t is c.in-None.is rows) in
+    let pages = tree_pages size p.tree.kind (number_in size p) p.tree.entries in
+    writes_same (ap (λ (f : ℕ → ℕ). paged size f 0 pages) a.number) (c.put_pages.ensures pages a.pages)
+
+pub returns-in-Some : goal.returns-in-Some
+returns-in-Some g c = λ p is.
+    let size = length c.args.page.now in
+    let longest = length c.args.scratch.now in
+    let t = c.args.tree.now in
+    let tables = c.args.tables.now in
+    let rows : c.as_slice-rows.result.now ≡ rows_at tables t.table = c.as_slice-rows.ensures.value ∙ ap (λ (x : OutTable). x.rows.items) (sym c.index-tables-tree.is)
+    ∙ sym (rows_are tables t.table c.index-tables-tree.result is.there c.index-tables-tree.is) in
+    let a = asks size longest c.args.lock tables _ p t is c.requires.lock
+    (same_index size longest tables c.as_slice-rows.result.now p t c.in-Some.index c.as_slice.result.now c.as_slice-in-Some.result.now is c.in-Some.is c.as_slice.ensures.value c.as_slice-in-Some.ensures.value rows) in
+    let pages = tree_pages size p.tree.kind (number_in size p) p.tree.entries in
+    writes_same (ap (λ (f : ℕ → ℕ). paged size f 0 pages) a.number) (c.put_pages-in-Some.ensures pages a.pages)

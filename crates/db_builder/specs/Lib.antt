@@ -1,0 +1,11 @@
+pub mod Trees
+pub mod Views
+pub mod Header
+pub mod Facts
+pub mod Layout
+pub mod Load
+pub mod Valid
+pub mod Prepared
+pub mod Plannable
+pub mod SoFar
+pub mod Written

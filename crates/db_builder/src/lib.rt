@@ -1,0 +1,20 @@
+//! A whole database file, written of tables and their rows (docs/FORMAT.md, "Layout of a written
+//! file").
+#![tactic(auto)]
+
+mod databases;
+mod headers;
+mod indexes;
+mod labels;
+mod orders;
+mod planners;
+mod plans;
+mod rows;
+mod schema;
+mod writes;
+
+pub use databases::OutDb;
+pub use plans::{Prepared, plan_file};
+
+#[cfg(test)]
+mod tests;

@@ -3,8 +3,6 @@ pub mod Views
 pub mod Header
 pub mod Facts
 pub mod Layout
-pub mod Load
-pub mod Valid
 pub mod Prepared
 pub mod Plannable
 pub mod SoFar

@@ -7,22 +7,22 @@ use Rattle.page_access.specs.Files.{file_of}
 use Rattle.page_access.specs.Pages.{File}
 use Rattle.page_access.specs.declared.geometry.Geometry.{Geometry}
 use Rattle.page_lists.specs.Lists.{IsPartOf, minus}
-use Rattle.page_lists.specs.Table.{IsPartition, Table, all_moved, fresh, unused}
+use Rattle.page_lists.specs.Table.{IsPartition, Moves, Table, all_moved, fresh, unused}
 use Rattle.page_lists.proofs.Counts.{length-minus}
 use Rattle.page_lists.proofs.Moves.{IsPartition-fresh, fresh_pages}
-use Rattle.page_lists.proofs.Uses.{count-list_at, unused-all_moved}
+use Rattle.page_lists.proofs.Uses.{Moves-unused, count-list_at, unused-all_moved}
 use Rattle.cell_reader.specs.declared.shapes.Kind.{Kind}
 use Rattle.overflow_chain.specs.declared.TheConstants.{OVERFLOW_LIST}
 use Rattle.page_walk.specs.Cells.{Outcome}
 use Rattle.page_walk.specs.Turns.{chains_on}
 use Rattle.page_walk.specs.Walk.{kinds_of}
-use Rattle.raw_schema.specs.Schema.{after_schema, schema_pages, schema_rows}
+use Rattle.raw_schema.specs.Schema.{SchemaMoves, after_schema, schema_pages, schema_rows}
 use Rattle.raw_schema.specs.declared.TheConstants.{SCHEMA_LIST}
 use Rattle.raw_schema.specs.declared.rows.SchemaRow.{SchemaRow}
 use Rattle.tree_uses.specs.Trees.{Tree, pages_in, turns_in, walks}
 use Rattle.schema_texts.specs.Readings.{AreReadings}
 use Rattle.schema_texts.specs.declared.readings.TableReading.{TableReading}
-use Rattle.use_order.specs.Order.{AreInOrder, behind_schema, index_trees, table_tree}
+use Rattle.use_order.specs.Order.{AreInOrder, UsesMove, behind_schema, index_trees, table_tree}
 use Rattle.use_order.specs.declared.TheConstants.{INDEX_LIST, TABLE_LIST}
 
 -- there are no more unused pages than pages
@@ -34,6 +34,22 @@ few_unused t each =
 
 pub few_part : (t : Table) (ps : List ℕ) → IsPartition t → IsPartOf ps (unused t) → length ps ≤ t.pages
 few_part t ps each part = omega (arith, few_unused t each, length-minus (unused t) ps part)
+
+-- pages that moved to one list, and to another
+pub moved_once : (l : ℕ) (a b : Table) → 1 ≤ l → Moves l a b → UsesMove a b
+moved_once l a b over moves = record { same_pages = moves.same_pages; same_lists = moves.same_lists; left = Moves-unused l a b over moves }
+
+pub moved_more : (a b c : Table) → UsesMove a b → UsesMove b c → UsesMove a c
+moved_more a b c first next = record {
+  same_pages = next.same_pages ∙ first.same_pages;
+  same_lists = next.same_lists ∙ first.same_lists;
+  left = λ q. omega (arith, first.left q, next.left q);
+}
+
+pub schema_moved : (a b : Table) → SchemaMoves a b → UsesMove a b
+schema_moved a b moves =
+    moved_more a moves.between b (moved_once SCHEMA_LIST a moves.between (omega arith) moves.tree)
+    (moved_once OVERFLOW_LIST moves.between b (omega arith) moves.chains)
 
 -- what holds of told bytes
 at_told : (P : List ℕ → Type 0) (o o' : Option (List ℕ)) (all : List ℕ) → o' ≡ o → o ≡ Some all → IfSome o' P → P all

@@ -1,10 +1,11 @@
 -- The uses of pages in order: the schema, the trees of its tables, those of its indexes, and the chains of the tables'
 -- cells (docs/ARCHITECTURE.md, "Order of use").
-use Rattle.std.specs.Prelude.{◌≡◌, ℕ, ◌+◌, Bool, true, false, if◌then◌else◌, Option, Some, List, [], ◌∷◌, ◌++◌, map}
+use Rattle.std.specs.Prelude.{◌≡◌, ℕ, ◌+◌, Bool, true, false, if◌then◌else◌, Option, Some, List, [], ◌∷◌, ◌++◌, length, map}
 use Rattle.cell_reader.specs.declared.shapes.Kind.{Kind}
 use Rattle.cell_reader.specs.declared.shapes.Kind.TheVariants as kinds
 use Rattle.page_access.specs.Pages.{File}
-use Rattle.page_lists.specs.Lists.{minus}
+use Rattle.page_lists.specs.Lists.{IsPartOf, minus}
+use Rattle.page_lists.specs.Table.{Table, unused}
 use Rattle.page_walk.specs.Cells.{Outcome}
 use Rattle.page_walk.specs.Turns.{chains_on}
 use Rattle.page_walk.specs.Walk.{kinds_of}
@@ -20,6 +21,12 @@ use Rattle.schema_texts.specs.declared.readings.Reading.{Reading}
 use Rattle.schema_texts.specs.declared.readings.Reading.TheVariants as readings
 use Rattle.schema_texts.specs.declared.readings.TableReading.{TableReading}
 use Rattle.use_order.specs.declared.TheConstants.{INDEX_LIST, TABLE_LIST}
+
+-- unused pages moved to the lists of their uses
+pub record UsesMove (old new : Table) : Type 0 where
+  pub same_pages : new.pages ≡ old.pages
+  pub same_lists : length new.lists ≡ length old.lists
+  pub left : IsPartOf (unused new) (unused old)
 
 -- ---- the trees that are wanted
 

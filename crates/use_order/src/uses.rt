@@ -9,7 +9,7 @@ ghost use Rattle.page_lists.specs.Table.{unused};
 ghost use Rattle.page_walk.specs.InTurn.{IsSmallTurn};
 ghost use Rattle.page_walk.specs.Walk.{kinds_of};
 ghost use Rattle.tree_uses.specs.Trees.{IsTreeOf, tree_of, turns_of};
-ghost use Rattle.use_order.specs.Order.{AreInOrder};
+ghost use Rattle.use_order.specs.Order.{AreInOrder, UsesMove};
 
 use crate::wants::{index_trees, table_trees};
 use crate::{INDEX_LIST, TABLE_LIST};
@@ -60,6 +60,7 @@ pub fn find_uses<S: Source>(
     ensures indexes { IfOk result (λ u. AllByRecursion (IsTreeOf geo.now.pages) (map tree_of u.indexes.items)) }
     ensures turns { IfOk result (λ u. AllByRecursion
         (AllByRecursion (IsSmallTurn geo.now.usable geo.now.pages)) (map turns_of u.turns.items)) }
+    ensures moves { UsesMove table.old table.new }
     ensures cause { HasCauseOf faults.Source (S.faults src.old) (S.faults src.new) result }
     ensures kept { KeepsSource S.bytes S.attached S.faults S.reads src.old src.new }
     ensures cached { IsCacheOf (S.bytes src.old) geo.now cache.new }

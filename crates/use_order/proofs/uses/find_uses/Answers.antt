@@ -2,6 +2,7 @@ use Rattle.std.proofs.Common.{◌≡◌, ◌<◌, ◌^◌, List, ◌∙◌, ap, 
 use Rattle.std.specs.List.{AllByRecursion}
 use Rattle.page_access.specs.Files.{file_of}
 use Rattle.page_lists.specs.Table.{unused}
+use Rattle.overflow_chain.specs.declared.TheConstants.{OVERFLOW_LIST}
 use Rattle.page_walk.proofs.Going.{one_told}
 use Rattle.raw_schema.specs.Bounds.{sql_len}
 use Rattle.raw_schema.specs.declared.rows.SchemaRow.{SchemaRow}
@@ -10,7 +11,8 @@ use Rattle.tree_uses.specs.declared.walks.WantedTree.{WantedTree}
 use Rattle.schema_texts.specs.Readings.{AreReadings}
 use Rattle.use_order.specs.Order.{index_trees, table_tree}
 use Rattle.use_order.proofs.Limits.{all_short, few_rows}
-use Rattle.use_order.proofs.Ordered.{few_part, in_order}
+use Rattle.use_order.specs.declared.TheConstants.{INDEX_LIST, TABLE_LIST}
+use Rattle.use_order.proofs.Ordered.{few_part, in_order, moved_more, moved_once, schema_moved}
 use Rattle.use_order.proofs.uses.find_uses.Goals as goal
 
 pub read_tables-requires-clause-few : goal.read_tables-requires-clause-few
@@ -65,3 +67,45 @@ returns-clause-order g c =
     (told c.walk_trees-2.new.src)
     (λ all p. p ∙ ap (λ (ts : List Tree). turns_in (file_of all geo) ts (unused c.walk_trees-2.new.table)) (ap (map tree_of) c.deref-6.ensures.value))
     c.in_ok-turns.ensures.value)
+
+pub returns-in_err-schema-clause-moves : goal.returns-in_err-schema-clause-moves
+returns-in_err-schema-clause-moves g c =
+    schema_moved c.args.table.now c.read_schema.new.table c.read_schema.ensures.moves
+
+pub returns-in_err-readings-clause-moves : goal.returns-in_err-readings-clause-moves
+returns-in_err-readings-clause-moves g c =
+    schema_moved c.args.table.now c.read_schema.new.table c.read_schema.ensures.moves
+
+pub returns-in_err-wanted-clause-moves : goal.returns-in_err-wanted-clause-moves
+returns-in_err-wanted-clause-moves g c =
+    schema_moved c.args.table.now c.read_schema.new.table c.read_schema.ensures.moves
+
+pub returns-in_err-tables-clause-moves : goal.returns-in_err-tables-clause-moves
+returns-in_err-tables-clause-moves g c =
+    moved_more c.args.table.now c.read_schema.new.table c.walk_trees.new.table (schema_moved c.args.table.now c.read_schema.new.table c.read_schema.ensures.moves)
+    (moved_once TABLE_LIST c.read_schema.new.table c.walk_trees.new.table (omega arith) c.walk_trees.ensures.moves)
+
+pub returns-in_err-named-clause-moves : goal.returns-in_err-named-clause-moves
+returns-in_err-named-clause-moves g c =
+    moved_more c.args.table.now c.read_schema.new.table c.walk_trees.new.table (schema_moved c.args.table.now c.read_schema.new.table c.read_schema.ensures.moves)
+    (moved_once TABLE_LIST c.read_schema.new.table c.walk_trees.new.table (omega arith) c.walk_trees.ensures.moves)
+
+pub returns-in_err-indexes-clause-moves : goal.returns-in_err-indexes-clause-moves
+returns-in_err-indexes-clause-moves g c =
+    moved_more c.args.table.now c.walk_trees.new.table c.walk_trees-2.new.table (moved_more c.args.table.now c.read_schema.new.table c.walk_trees.new.table (schema_moved c.args.table.now c.read_schema.new.table c.read_schema.ensures.moves)
+    (moved_once TABLE_LIST c.read_schema.new.table c.walk_trees.new.table (omega arith) c.walk_trees.ensures.moves))
+    (moved_once INDEX_LIST c.walk_trees.new.table c.walk_trees-2.new.table (omega arith) c.walk_trees-2.ensures.moves)
+
+pub returns-in_err-turns-clause-moves : goal.returns-in_err-turns-clause-moves
+returns-in_err-turns-clause-moves g c =
+    moved_more c.args.table.now c.walk_trees-2.new.table c.read_trees.new.table (moved_more c.args.table.now c.walk_trees.new.table c.walk_trees-2.new.table (moved_more c.args.table.now c.read_schema.new.table c.walk_trees.new.table (schema_moved c.args.table.now c.read_schema.new.table c.read_schema.ensures.moves)
+    (moved_once TABLE_LIST c.read_schema.new.table c.walk_trees.new.table (omega arith) c.walk_trees.ensures.moves))
+    (moved_once INDEX_LIST c.walk_trees.new.table c.walk_trees-2.new.table (omega arith) c.walk_trees-2.ensures.moves))
+    (moved_once OVERFLOW_LIST c.walk_trees-2.new.table c.read_trees.new.table (omega arith) c.read_trees.ensures.moves)
+
+pub returns-clause-moves : goal.returns-clause-moves
+returns-clause-moves g c =
+    moved_more c.args.table.now c.walk_trees-2.new.table c.read_trees.new.table (moved_more c.args.table.now c.walk_trees.new.table c.walk_trees-2.new.table (moved_more c.args.table.now c.read_schema.new.table c.walk_trees.new.table (schema_moved c.args.table.now c.read_schema.new.table c.read_schema.ensures.moves)
+    (moved_once TABLE_LIST c.read_schema.new.table c.walk_trees.new.table (omega arith) c.walk_trees.ensures.moves))
+    (moved_once INDEX_LIST c.walk_trees.new.table c.walk_trees-2.new.table (omega arith) c.walk_trees-2.ensures.moves))
+    (moved_once OVERFLOW_LIST c.walk_trees-2.new.table c.read_trees.new.table (omega arith) c.read_trees.ensures.moves)

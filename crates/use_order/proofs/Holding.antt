@@ -1,10 +1,11 @@
 -- Each page has one use at most, and the readable cells of the tables have their evidence.
-use Rattle.std.proofs.Common.{◌≡◌, ◌≤◌, inl, inr, ℕ, ◌+◌, Bool, true, List, [], ◌∷◌, ◌++◌, map, refl, sym, ◌∙◌, ap, subst, arith}
+use Rattle.std.proofs.Common.{◌≡◌, ◌≤◌, inl, inr, ℕ, ◌+◌, Bool, true, false, List, [], ◌∷◌, ◌++◌, map, refl, sym, ◌∙◌, ap, subst, arith}
 use Rattle.std.specs.Prelude.{pos, if◌then◌else◌}
 use Rattle.std.specs.List.{AllByRecursion, flat_map}
 use Rattle.std.proofs.lemmas.Bool.{cases_Bool}
 use Rattle.std.proofs.lemmas.Bool.Decides.{nat_tests}
 use Rattle.std.proofs.lemmas.Grind.{flat_map-append}
+use Rattle.page_access.specs.Pages.{File}
 use Rattle.page_lists.specs.Lists.{IsPartOf, count, minus}
 use Rattle.page_lists.specs.Table.{is_page}
 use Rattle.page_lists.proofs.Counts.{count_in, count-minus, in_head}
@@ -18,7 +19,9 @@ use Rattle.page_walk.proofs.Witness.{pages_have_evidence}
 use Rattle.raw_schema.specs.Schema.{cells_in, schema_pages}
 use Rattle.tree_uses.specs.Trees.{Tree, chains_in, pages_in, turns_in}
 use Rattle.tree_uses.proofs.Splits.{trees_are_unused, trees_take_turns}
+use Rattle.use_order.proofs.Apart.{turns_chains, turns_pages, turns_times}
 use Rattle.use_order.specs.Laws.{UsesAlwaysHold, schema_chains, table_cells}
+use Rattle.use_order.specs.Apart.{AreApart}
 use Rattle.use_order.specs.Order.{behind_schema, index_trees, table_tree}
 
 -- the cells of trees, joined
@@ -39,6 +42,18 @@ are_pages n (p ∷ ps) unused once part =
       | inl is ↦ (page_bounds n p is, are_pages n ps unused once (λ q. omega (arith, part q)))
       | inr isnt ↦ absurd (omega (arith, part p, once p, ap {B = ℕ} (λ (b : Bool). if b then 1 else 0) isnt, count_in p (p ∷ ps) (in_head p ps)))
     ]
+
+at_most_one : (b : Bool) → (if b then 1 else 0) ≤ 1
+at_most_one true = omega arith
+at_most_one false = omega arith
+
+-- the rows of pages that have no other use, and whose chains have none
+rows_apart : (f : File) (ps unused : List ℕ) → ((q : ℕ) → count q ps + count q (chains_on f ps unused) ≤ 1) → AreApart (cells_in (turns_on f ps unused))
+rows_apart f ps u once = record {
+  places = λ q i. omega (arith, turns_times f ps q i u, once q);
+  chains = λ q. omega (arith, turns_chains f ps q u, once q);
+  holds = λ q some. turns_pages f ps q u (omega (arith, some, turns_chains f ps q u, once q));
+}
 
 pub uses_hold : UsesAlwaysHold
 uses_hold f u rows rs tables indexes turns o =
@@ -71,4 +86,6 @@ uses_hold f u rows rs tables indexes turns o =
       evidence = λ once. subst (AllByRecursion (Evidence f)) (sym cells)
           (pages_have_evidence f (pages_in tables) d (are_pages f.pages (pages_in tables) u once (λ q. omega (arith, fewer q)))
           (λ q. omega (arith, once q, fewer q)));
+      apart = λ once. subst AreApart (sym cells)
+          (rows_apart f (pages_in tables) d (λ q. omega (arith, at_most_one (is_page f.pages q), once q, fewer q, fifth q, ap (count q) chains)));
     }

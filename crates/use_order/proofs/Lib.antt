@@ -1,3 +1,4 @@
+pub mod Apart
 pub mod Holding
 pub mod Limits
 pub mod Ordered

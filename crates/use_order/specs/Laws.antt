@@ -10,6 +10,7 @@ use Rattle.raw_schema.specs.Schema.{cells_in, schema_pages}
 use Rattle.raw_schema.specs.declared.rows.SchemaRow.{SchemaRow}
 use Rattle.tree_uses.specs.Trees.{Tree, chains_in, pages_in}
 use Rattle.schema_texts.specs.declared.readings.TableReading.{TableReading}
+use Rattle.use_order.specs.Apart.{AreApart}
 use Rattle.use_order.specs.Order.{AreInOrder}
 
 -- the pages of the chains that the schema's cells take
@@ -32,6 +33,8 @@ pub record UsesHold (f : File) (unused : List ℕ) (tables indexes : List Tree) 
   pub once : (q : ℕ) → times_used f unused tables indexes turns q ≤ count q unused
   -- each readable cell has its evidence
   pub evidence : AreOnce f.pages unused → AllByRecursion (Evidence f) (table_cells turns)
+  -- no two of them share a cell or a page of their chains
+  pub apart : AreOnce f.pages unused → AreApart (table_cells turns)
 
 abbrev pub UsesAlwaysHold : Type 0
 UsesAlwaysHold = (f : File) (unused : List ℕ) (rows : List SchemaRow) (rs : List TableReading) (tables indexes : List Tree)

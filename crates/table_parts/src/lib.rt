@@ -1,0 +1,11 @@
+//! What becomes of a table: its rows and the cells that are none, or why it is not built, and its lines of the
+//! report (docs/TEXTS.md, "The report").
+#![tactic(auto)]
+
+mod cells;
+mod lines;
+mod parts;
+
+pub use cells::{TableCells, cells_of};
+pub use lines::add_lines;
+pub use parts::{TablePart, part_of};

@@ -3,9 +3,14 @@
 #![tactic(auto)]
 
 mod cells;
+mod laws;
 mod lines;
 mod parts;
 
 pub use cells::{TableCells, cells_of};
+pub use laws::each_cell_is_kept_or_lost;
 pub use lines::add_lines;
 pub use parts::{TablePart, part_of};
+
+#[cfg(test)]
+mod tests;

@@ -2,7 +2,7 @@
 
 ghost use Rattle.std.specs.Prelude.{◌≡◌, ◌≤◌, ◌<◌, ◌+◌, ◌-◌, ◌^◌, ◌++◌, ℕ, List, [], IfOk, length, slice_index_or, take};
 ghost use Rattle.std.specs.List.{AllZip, flat_map};
-ghost use Rattle.page_access.specs.Outside.{Writes};
+ghost use Rattle.page_access.specs.Outside.{KeepsSink, Writes};
 ghost use Rattle.tree_writer.specs.Numbers.{number_of};
 ghost use Rattle.tree_writer.specs.Planned.{HasRoom, IsHeld};
 ghost use Rattle.tree_writer.specs.Trees.{IsPlan, IsSchemaPlan};
@@ -26,13 +26,15 @@ use tree_writer::{Entries, Numbering, TreePlan};
 
 impl Prepared {
     /// Puts the file that was prepared into a sink, one page per call, and gives the number of pages.
-    /// Takes no memory.
+    /// It stays prepared, for the same database. Takes no memory.
     pub fn write<O: Sink>(&mut self, db: &OutDb, out: &mut O) -> Result<u32, Failed>
         requires { IsPrepared self.old.page_size db.now self.old }
         ensures pages { IfOk result (λ n. n
             ≡ last_page self.old.page_size (trees_of db.now.tables.items)) }
         ensures writes { Writes (O.bytes out.old) (O.bytes out.new) (O.faults out.old)
             (O.faults out.new) (layout self.old.page_size db.now) result }
+        ensures kept { KeepsSink O.created O.finished O.faults out.old out.new }
+        ensures prepared { IsPrepared self.old.page_size db.now self.new }
     {
         let numbers = Numbering {
             start: self.start,
@@ -72,9 +74,10 @@ fn put_first<N: Entries, O: Sink>(
     requires room { HasRoom (N.entries entries.now) scratch.old }
     requires least { 1 ≤ numbers.now.start }
     requires most { numbers.now.start + plan.now.count < 2 ^ 32 - 1 }
-    ensures { Writes (O.bytes out.old) (O.bytes out.new) (O.faults out.old) (O.faults out.new)
+    ensures writes { Writes (O.bytes out.old) (O.bytes out.new) (O.faults out.old) (O.faults out.new)
         (slice_index_or (schema_pages (header_bytes (said facts)) facts.size
         (number_of numbers.now.start numbers.now.lock) (N.entries entries.now)) 0 []) result }
+    ensures kept { KeepsSink O.created O.finished O.faults out.old out.new }
 {
     put_front(page, header(facts).as_slice());
     plan.write_page(0, numbers, entries, scratch, page);
@@ -100,10 +103,11 @@ fn put_trees<O: Sink>(
 ) -> Result<(), Failed>
     requires lock { lock ≡ lock_of (length page.old) }
     requires planned { ArePlanned (length page.old) tables.now (length scratch.old) trees.now }
-    ensures { (ps : List Placed)
+    ensures writes { (ps : List Placed)
         → AllZip (IsPlanned (length page.old) tables.now (length scratch.old)) ps trees.now
         → Writes (O.bytes out.old) (O.bytes out.new) (O.faults out.old) (O.faults out.new)
         (flat_map (tree_bytes (length page.old)) ps) result }
+    ensures kept { KeepsSink O.created O.finished O.faults out.old out.new }
 {
     for tree in trees {
         put_tree(tree, tables, lock, scratch, page, out)?;
@@ -123,9 +127,10 @@ fn put_tree<O: Sink>(
     requires lock { lock ≡ lock_of (length page.old) }
     requires planned { (p : Placed)
         × IsPlanned (length page.old) tables.now (length scratch.old) p tree.now }
-    ensures { (p : Placed) → IsPlanned (length page.old) tables.now (length scratch.old) p tree.now
+    ensures writes { (p : Placed) → IsPlanned (length page.old) tables.now (length scratch.old) p tree.now
         → Writes (O.bytes out.old) (O.bytes out.new) (O.faults out.old) (O.faults out.new)
         (tree_bytes (length page.old) p) result }
+    ensures kept { KeepsSink O.created O.finished O.faults out.old out.new }
 {
     let rows = tables[tree.table].rows.as_slice();
     let numbers = Numbering {
@@ -165,10 +170,11 @@ fn put_pages<N: Entries, O: Sink>(
     requires least { 1 ≤ numbers.now.start }
     requires most { numbers.now.start + plan.now.count < 2 ^ 32 - 1 }
     requires first { first ≤ plan.now.count }
-    ensures { (pages : List (List ℕ)) → ArePages (N.entries entries.now)
+    ensures writes { (pages : List (List ℕ)) → ArePages (N.entries entries.now)
         (number_of numbers.now.start numbers.now.lock) plan.now first pages
         → Writes (O.bytes out.old) (O.bytes out.new) (O.faults out.old) (O.faults out.new)
         (paged (length page.old) (number_of numbers.now.start numbers.now.lock) 0 pages) result }
+    ensures kept { KeepsSink O.created O.finished O.faults out.old out.new }
 {
     let mut held = None;
     for j in 0..plan.page_count() - first {
@@ -204,6 +210,7 @@ fn put_one<N: Entries, O: Sink>(
         → Writes (O.bytes out.old) (O.bytes out.new) (O.faults out.old) (O.faults out.new)
         (gap (length page.old) (number_of numbers.now.start numbers.now.lock j)
         ++ slice_index_or pages j []) result }
+    ensures kept { KeepsSink O.created O.finished O.faults out.old out.new }
 {
     put_gap(numbers.number(j), numbers.lock, page, out)?;
     let held = plan.write_next(first + j, numbers, entries, held, scratch, page);
@@ -215,8 +222,9 @@ fn put_one<N: Entries, O: Sink>(
 fn put_gap<O: Sink>(number: u32, lock: u32, page: &mut [u8], out: &mut O) -> Result<(), Failed>
     requires small { lock < 2 ^ 32 - 1 }
     requires lock { lock ≡ lock_of (length page.old) }
-    ensures { Writes (O.bytes out.old) (O.bytes out.new) (O.faults out.old) (O.faults out.new)
+    ensures writes { Writes (O.bytes out.old) (O.bytes out.new) (O.faults out.old) (O.faults out.new)
         (gap (length page.old) number) result }
+    ensures kept { KeepsSink O.created O.finished O.faults out.old out.new }
 {
     if number == lock + 1 {
         page.fill(0);

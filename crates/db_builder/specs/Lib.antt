@@ -7,3 +7,4 @@ pub mod Prepared
 pub mod Plannable
 pub mod SoFar
 pub mod Written
+pub mod Load

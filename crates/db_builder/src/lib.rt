@@ -6,7 +6,9 @@ mod databases;
 mod headers;
 mod indexes;
 mod labels;
+mod loads;
 mod orders;
+mod places;
 mod planners;
 mod plans;
 mod rows;
@@ -14,6 +16,7 @@ mod schema;
 mod writes;
 
 pub use databases::OutDb;
+pub use loads::load_of;
 pub use plans::{Prepared, plan_file};
 
 #[cfg(test)]

@@ -8,3 +8,4 @@ pub mod Plannable
 pub mod SoFar
 pub mod Written
 pub mod Load
+pub mod Faults

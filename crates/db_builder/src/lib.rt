@@ -3,6 +3,7 @@
 #![tactic(auto)]
 
 mod databases;
+mod faults;
 mod headers;
 mod indexes;
 mod labels;
@@ -16,8 +17,10 @@ mod schema;
 mod writes;
 
 pub use databases::OutDb;
+pub use faults::{BuildFault, PrepareFault};
 pub use loads::load_of;
-pub use plans::{Prepared, plan_file};
+pub use plans::{Prepared, plan_file, prepare};
+pub use writes::build;
 
 #[cfg(test)]
 mod tests;

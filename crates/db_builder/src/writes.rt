@@ -1,8 +1,8 @@
 //! A prepared database is written, page by page.
 
-ghost use Rattle.std.specs.Prelude.{◌≡◌, ◌≤◌, ◌<◌, ◌+◌, ◌-◌, ◌^◌, ◌++◌, ℕ, List, [], IfOk, length, slice_index_or, take};
+ghost use Rattle.std.specs.Prelude.{◌≡◌, ◌≤◌, ◌<◌, ◌+◌, ◌-◌, ◌^◌, ◌++◌, ℕ, List, [], IfOk, IsErrOf, IsOk, length, slice_index_or, take, ◌⊎◌};
 ghost use Rattle.std.specs.List.{AllZip, flat_map};
-ghost use Rattle.page_access.specs.Outside.{KeepsSink, Writes};
+ghost use Rattle.page_access.specs.Outside.{KeepsSink, Writes, WritesOf};
 ghost use Rattle.tree_writer.specs.Numbers.{number_of};
 ghost use Rattle.tree_writer.specs.Planned.{HasRoom, IsHeld};
 ghost use Rattle.tree_writer.specs.Trees.{IsPlan, IsSchemaPlan};
@@ -10,19 +10,50 @@ ghost use Rattle.tree_writer.specs.Layout.{schema_pages};
 ghost use Rattle.db_builder.specs.Header.{header_bytes};
 ghost use Rattle.db_builder.specs.Facts.{said};
 ghost use Rattle.db_builder.specs.Layout.{Placed, gap, last_page, layout, lock_of, paged, tree_bytes};
+ghost use Rattle.db_builder.specs.Load.{HasFewValues, load};
+ghost use Rattle.db_builder.specs.Plannable.{CanPrepare};
 ghost use Rattle.db_builder.specs.Prepared.{ArePlanned, CanRead, IsPlanned, IsPrepared, planned_entries};
 ghost use Rattle.db_builder.specs.Trees.{trees_of};
 ghost use Rattle.db_builder.specs.Written.{ArePages};
 
 use crate::databases::OutDb;
+use crate::faults::BuildFault;
 use crate::headers::{FileFacts, header};
 use crate::indexes::IndexEntries;
-use crate::plans::{PlannedTree, Prepared, lock_of};
+use crate::plans::{PlannedTree, Prepared, lock_of, prepare};
 use crate::rows::RowEntries;
 use crate::schema::SchemaEntries;
 use page_access::{Failed, Sink};
+use std::alloc::Global;
 use table_shape::OutTable;
 use tree_writer::{Entries, Numbering, TreePlan};
+
+/// Puts the file of a database whose load is at most the limit into a sink, one page per call, and gives
+/// the number of pages. It is asked that such a database can be prepared. Memory runs out only before the
+/// first page is put.
+pub fn build<O: Sink>(
+    alloc: Global,
+    db: &OutDb,
+    page_size: u32,
+    limit: u64,
+    out: &mut O,
+) -> Result<u32, BuildFault>
+    requires least { 512 ≤ page_size }
+    requires most { page_size ≤ 65536 }
+    requires few { HasFewValues db.now }
+    requires can { load db.now ≤ limit → CanPrepare page_size db.now }
+    ensures pages { IfOk result (λ n. n ≡ last_page page_size (trees_of db.now.tables.items)) }
+    ensures writes { WritesOf BuildFault.Sink (O.bytes out.old) (O.bytes out.new) (O.faults out.old)
+        (O.faults out.new) (layout page_size db.now) result }
+    ensures too_large { (n : ℕ) → IsErrOf result (BuildFault.TooLarge n)
+        → (limit < load db.now) × (n ≡ load db.now) }
+    ensures refused { limit < load db.now → IsErrOf result (BuildFault.TooLarge (load db.now)) }
+    ensures unput { IsErrOf result BuildFault.Sink ⊎ (IsOk result ⊎ (out.new ≡ out.old)) }
+    ensures kept { KeepsSink O.created O.finished O.faults out.old out.new }
+{
+    let mut prepared = prepare(alloc, db, page_size, limit)?;
+    Ok(prepared.write(db, out)?)
+}
 
 impl Prepared {
     /// Puts the file that was prepared into a sink, one page per call, and gives the number of pages.

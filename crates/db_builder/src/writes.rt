@@ -48,7 +48,7 @@ pub fn build<O: Sink>(
     ensures too_large { (n : ℕ) → IsErrOf result (BuildFault.TooLarge n)
         → (limit < load db.now) × (n ≡ load db.now) }
     ensures refused { limit < load db.now → IsErrOf result (BuildFault.TooLarge (load db.now)) }
-    ensures unput { IsErrOf result BuildFault.Sink ⊎ (IsOk result ⊎ (out.new ≡ out.old)) }
+    ensures untouched { IsErrOf result BuildFault.Sink ⊎ (IsOk result ⊎ (out.new ≡ out.old)) }
     ensures kept { KeepsSink O.created O.finished O.faults out.old out.new }
 {
     let mut prepared = prepare(alloc, db, page_size, limit)?;

@@ -9,3 +9,4 @@ pub mod SoFar
 pub mod Written
 pub mod Load
 pub mod Faults
+pub mod Valid

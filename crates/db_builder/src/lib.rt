@@ -18,7 +18,7 @@ mod writes;
 
 pub use databases::OutDb;
 pub use faults::{BuildFault, PrepareFault};
-pub use loads::load_of;
+pub use loads::{a_valid_database_has_few_values, load_of};
 pub use plans::{Prepared, plan_file, prepare};
 pub use writes::build;
 

@@ -9,6 +9,8 @@ ghost use Rattle.table_shape.specs.Seen.{shape_seen};
 ghost use Rattle.table_shape.specs.Shape.{IsKeyOf, key_seen};
 ghost use Rattle.varint_core.specs.Shortest.{spell};
 ghost use Rattle.db_builder.specs.Load.{HasFewValues, HaveFewValues, key_load, label_load, load, record_load, rows_load, table_load};
+ghost use Rattle.db_builder.specs.declared.databases.OutDb.{OutDb};
+ghost use Rattle.db_builder.specs.Valid.{IsValid};
 ghost use Rattle.db_builder.specs.Trees.{Label, key_label, table_label};
 
 use crate::databases::OutDb;
@@ -31,6 +33,11 @@ pub fn load_of(db: &OutDb) -> u128
     }
     total
 }
+
+/// A database that can be written has few enough values in each row.
+pub fn a_valid_database_has_few_values()
+    ensures { (db : OutDb) → IsValid db → HasFewValues db }
+{}
 
 fn table_load(table: &OutTable) -> u128
     requires { HaveFewValues table.now.rows.items }

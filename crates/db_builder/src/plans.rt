@@ -80,7 +80,7 @@ pub fn lock_of(page_size: u32) -> u32
 const MOST_PAGES: u32 = 1 << 31;
 
 /// Plans the file of a database whose load is at most the limit, on pages of `page_size` bytes. It is
-/// asked that such a database can be prepared. Want of memory is answered too where the file would have
+/// asked that such a database can be prepared: that each valid one can is not proved. Want of memory is answered too where the file would have
 /// 2^31 pages or more.
 pub fn prepare(
     alloc: Global,

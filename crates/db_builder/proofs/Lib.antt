@@ -6,3 +6,5 @@ pub mod Roots
 pub mod Taking
 pub mod Ordered
 pub mod Made
+pub mod Loading
+pub mod Standing

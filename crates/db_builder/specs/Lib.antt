@@ -7,3 +7,6 @@ pub mod Prepared
 pub mod Plannable
 pub mod SoFar
 pub mod Written
+pub mod Load
+pub mod Faults
+pub mod Valid

@@ -3,10 +3,13 @@
 #![tactic(auto)]
 
 mod databases;
+mod faults;
 mod headers;
 mod indexes;
 mod labels;
+mod loads;
 mod orders;
+mod places;
 mod planners;
 mod plans;
 mod rows;
@@ -14,7 +17,10 @@ mod schema;
 mod writes;
 
 pub use databases::OutDb;
-pub use plans::{Prepared, plan_file};
+pub use faults::{BuildFault, PrepareFault};
+pub use loads::{a_valid_database_has_few_values, load_of};
+pub use plans::{Prepared, plan_file, prepare};
+pub use writes::build;
 
 #[cfg(test)]
 mod tests;

@@ -1,20 +1,23 @@
 //! What is prepared before a file is written.
 
-ghost use Rattle.std.specs.Prelude.{◌≡◌, ◌≤◌, ◌<◌, ◌+◌, ◌-◌, ◌^◌, ◌++◌, ℕ, List, [], ◌∷◌, IfOk, OnOk, None, length, slice_index_or};
+ghost use Rattle.std.specs.Prelude.{◌≡◌, ◌≤◌, ◌<◌, ◌+◌, ◌-◌, ◌^◌, ◌++◌, ℕ, List, [], ◌∷◌, IfOk, IsErrOf, OnOk, None, length, slice_index_or};
 ghost use Rattle.db_builder.specs.declared.databases.OutDb.{OutDb};
 ghost use Rattle.table_shape.specs.declared.rows.OutTable.{OutTable};
 ghost use Rattle.table_shape.specs.Keys.{keys_seen, parts_seen};
 ghost use Rattle.tree_writer.specs.Entry.{AreEntries, HaveNoRowids, RowidsRise};
 ghost use Rattle.tree_writer.specs.Trees.{IsTreePlan};
 ghost use Rattle.db_builder.specs.Layout.{lock_of, start_of};
+ghost use Rattle.db_builder.specs.Load.{HasFewValues, load};
 ghost use Rattle.db_builder.specs.Plannable.{CanPrepare, IsKeyPlannable, IsPlannable};
 ghost use Rattle.db_builder.specs.Prepared.{HaveAtMost, IsPlanned, IsPrepared, rows_at, schema_seen};
 ghost use Rattle.db_builder.specs.SoFar.{IsMade, IsSoFar};
 ghost use Rattle.db_builder.specs.Trees.{Tree, key_tree, keys_in, kind_of, table_tree, table_trees, trees_of};
 
 use crate::databases::OutDb;
+use crate::faults::PrepareFault;
 use crate::indexes::IndexEntries;
 use crate::labels::{key_values, record_of, table_values};
+use crate::loads::load_of;
 use crate::orders::order_of;
 use crate::planners::Planner;
 use crate::rows::RowEntries;
@@ -75,6 +78,32 @@ pub fn lock_of(page_size: u32) -> u32
 
 // The number of pages of a file is below this.
 const MOST_PAGES: u32 = 1 << 31;
+
+/// Plans the file of a database whose load is at most the limit, on pages of `page_size` bytes. It is
+/// asked that such a database can be prepared: that each valid one can is not proved. Want of memory is answered too where the file would have
+/// 2^31 pages or more.
+pub fn prepare(
+    alloc: Global,
+    db: &OutDb,
+    page_size: u32,
+    limit: u64,
+) -> Result<Prepared, PrepareFault>
+    requires least { 512 ≤ page_size }
+    requires most { page_size ≤ 65536 }
+    requires few { HasFewValues db.now }
+    requires can { load db.now ≤ limit → CanPrepare page_size db.now }
+    ensures size { IfOk result (λ p. p.page_size ≡ page_size) }
+    ensures prepared { IfOk result (λ p. IsPrepared p.page_size db.now p) }
+    ensures too_large { (n : ℕ) → IsErrOf result (PrepareFault.TooLarge n)
+        → (limit < load db.now) × (n ≡ load db.now) }
+    ensures refused { limit < load db.now → IsErrOf result (PrepareFault.TooLarge (load db.now)) }
+{
+    let load = load_of(db);
+    if load > u128::from(limit) {
+        return Err(PrepareFault::TooLarge { load });
+    }
+    Ok(plan_file(alloc, db, page_size)?)
+}
 
 /// Plans a file of pages of `page_size` bytes. Want of memory is answered too where the file would
 /// have 2^31 pages or more.

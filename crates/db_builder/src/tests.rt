@@ -1,7 +1,58 @@
 //! Files, by hand from the standard (fileformat2.html, 1.3 to 1.7 and 2.6).
+
+ghost use Rattle.std.specs.Prelude.{◌≤◌, ◌∷◌, [], IfOk, length};
+ghost use Rattle.db_builder.specs.Load.{HaveFewValues};
+
 use crate::*;
+use create_reader::read_create;
 use page_access::MemSink;
+use record_core::{Bytes, Value};
+use std::alloc::{AllocError, Global};
 use std::test::Fail;
+use table_shape::{OutRow, OutTable};
+
+fn row(alloc: Global, rowid: i64, values: [Value; 2]) -> Result<OutRow, AllocError>
+    ensures { IfOk result (λ r. length r.fields.items ≤ 4000) }
+{
+    Ok(OutRow {
+        rowid: Some(rowid),
+        fields: Vec::from_array(alloc, values)?,
+    })
+}
+
+fn two_rows(alloc: Global, first: OutRow, second: OutRow) -> Result<Vec<OutRow>, AllocError>
+    requires first { length first.fields.items ≤ 4000 }
+    requires second { length second.fields.items ≤ 4000 }
+    ensures { IfOk result (λ rows. HaveFewValues rows.items) }
+{
+    Ok(Vec::from_array(alloc, [first, second])?)
+}
+
+// A row of the schema has 33 and 3 bytes, the rows have 5 and 4, and each counts 32 more.
+#[test]
+fn a_table_of_two_rows_has_the_load_141(rt: HostRuntime) -> Result<(), Fail> {
+    let alloc = rt.alloc();
+    let text = Value::Text(Bytes::copy_of(alloc, b"x")?);
+    let blob = Value::Blob(Bytes::copy_of(alloc, &[0])?);
+    let first = row(alloc, 1, [Value::Whole(5), text])?;
+    let second = row(alloc, 2, [Value::Null, blob])?;
+    let table = OutTable {
+        name: Bytes::copy_of(alloc, b"t")?,
+        text: Bytes::copy_of(alloc, b"CREATE TABLE t(a,b)")?,
+        shape: read_create(alloc, b"CREATE TABLE t(a,b)")?,
+        rows: two_rows(alloc, first, second)?,
+    };
+    let db = OutDb {
+        tables: Vec::from_array(alloc, [table])?,
+        user_version: 0,
+        application_id: 0,
+    };
+    let load = load_of(&db);
+    assert_eq!(rt; load, 141);
+    let refused = prepare(alloc, &db, 512, 100);
+    assert_eq!(rt; refused.err(), Some(PrepareFault::TooLarge { load: 141 }));
+    Ok(())
+}
 
 #[test]
 fn an_empty_database_has_one_page(rt: HostRuntime) -> Result<(), Fail> {

@@ -1,8 +1,8 @@
 //! A prepared database is written, page by page.
 
-ghost use Rattle.std.specs.Prelude.{◌≡◌, ◌≤◌, ◌<◌, ◌+◌, ◌-◌, ◌^◌, ◌++◌, ℕ, List, [], IfOk, length, slice_index_or, take};
+ghost use Rattle.std.specs.Prelude.{◌≡◌, ◌≤◌, ◌<◌, ◌+◌, ◌-◌, ◌^◌, ◌++◌, ℕ, List, [], IfOk, IsErrOf, IsOk, length, slice_index_or, take, ◌⊎◌};
 ghost use Rattle.std.specs.List.{AllZip, flat_map};
-ghost use Rattle.page_access.specs.Outside.{Writes};
+ghost use Rattle.page_access.specs.Outside.{KeepsSink, Writes, WritesOf};
 ghost use Rattle.tree_writer.specs.Numbers.{number_of};
 ghost use Rattle.tree_writer.specs.Planned.{HasRoom, IsHeld};
 ghost use Rattle.tree_writer.specs.Trees.{IsPlan, IsSchemaPlan};
@@ -10,29 +10,62 @@ ghost use Rattle.tree_writer.specs.Layout.{schema_pages};
 ghost use Rattle.db_builder.specs.Header.{header_bytes};
 ghost use Rattle.db_builder.specs.Facts.{said};
 ghost use Rattle.db_builder.specs.Layout.{Placed, gap, last_page, layout, lock_of, paged, tree_bytes};
+ghost use Rattle.db_builder.specs.Load.{HasFewValues, load};
+ghost use Rattle.db_builder.specs.Plannable.{CanPrepare};
 ghost use Rattle.db_builder.specs.Prepared.{ArePlanned, CanRead, IsPlanned, IsPrepared, planned_entries};
 ghost use Rattle.db_builder.specs.Trees.{trees_of};
 ghost use Rattle.db_builder.specs.Written.{ArePages};
 
 use crate::databases::OutDb;
+use crate::faults::BuildFault;
 use crate::headers::{FileFacts, header};
 use crate::indexes::IndexEntries;
-use crate::plans::{PlannedTree, Prepared, lock_of};
+use crate::plans::{PlannedTree, Prepared, lock_of, prepare};
 use crate::rows::RowEntries;
 use crate::schema::SchemaEntries;
 use page_access::{Failed, Sink};
+use std::alloc::Global;
 use table_shape::OutTable;
 use tree_writer::{Entries, Numbering, TreePlan};
 
+/// Puts the file of a database whose load is at most the limit into a sink, one page per call, and gives
+/// the number of pages. It is asked that such a database can be prepared. Memory runs out only before the
+/// first page is put.
+pub fn build<O: Sink>(
+    alloc: Global,
+    db: &OutDb,
+    page_size: u32,
+    limit: u64,
+    out: &mut O,
+) -> Result<u32, BuildFault>
+    requires least { 512 ≤ page_size }
+    requires most { page_size ≤ 65536 }
+    requires few { HasFewValues db.now }
+    requires can { load db.now ≤ limit → CanPrepare page_size db.now }
+    ensures pages { IfOk result (λ n. n ≡ last_page page_size (trees_of db.now.tables.items)) }
+    ensures writes { WritesOf BuildFault.Sink (O.bytes out.old) (O.bytes out.new) (O.faults out.old)
+        (O.faults out.new) (layout page_size db.now) result }
+    ensures too_large { (n : ℕ) → IsErrOf result (BuildFault.TooLarge n)
+        → (limit < load db.now) × (n ≡ load db.now) }
+    ensures refused { limit < load db.now → IsErrOf result (BuildFault.TooLarge (load db.now)) }
+    ensures untouched { IsErrOf result BuildFault.Sink ⊎ (IsOk result ⊎ (out.new ≡ out.old)) }
+    ensures kept { KeepsSink O.created O.finished O.faults out.old out.new }
+{
+    let mut prepared = prepare(alloc, db, page_size, limit)?;
+    Ok(prepared.write(db, out)?)
+}
+
 impl Prepared {
     /// Puts the file that was prepared into a sink, one page per call, and gives the number of pages.
-    /// Takes no memory.
+    /// It stays prepared, for the same database. Takes no memory.
     pub fn write<O: Sink>(&mut self, db: &OutDb, out: &mut O) -> Result<u32, Failed>
         requires { IsPrepared self.old.page_size db.now self.old }
         ensures pages { IfOk result (λ n. n
             ≡ last_page self.old.page_size (trees_of db.now.tables.items)) }
         ensures writes { Writes (O.bytes out.old) (O.bytes out.new) (O.faults out.old)
             (O.faults out.new) (layout self.old.page_size db.now) result }
+        ensures kept { KeepsSink O.created O.finished O.faults out.old out.new }
+        ensures prepared { IsPrepared self.old.page_size db.now self.new }
     {
         let numbers = Numbering {
             start: self.start,
@@ -72,9 +105,10 @@ fn put_first<N: Entries, O: Sink>(
     requires room { HasRoom (N.entries entries.now) scratch.old }
     requires least { 1 ≤ numbers.now.start }
     requires most { numbers.now.start + plan.now.count < 2 ^ 32 - 1 }
-    ensures { Writes (O.bytes out.old) (O.bytes out.new) (O.faults out.old) (O.faults out.new)
+    ensures writes { Writes (O.bytes out.old) (O.bytes out.new) (O.faults out.old) (O.faults out.new)
         (slice_index_or (schema_pages (header_bytes (said facts)) facts.size
         (number_of numbers.now.start numbers.now.lock) (N.entries entries.now)) 0 []) result }
+    ensures kept { KeepsSink O.created O.finished O.faults out.old out.new }
 {
     put_front(page, header(facts).as_slice());
     plan.write_page(0, numbers, entries, scratch, page);
@@ -100,10 +134,11 @@ fn put_trees<O: Sink>(
 ) -> Result<(), Failed>
     requires lock { lock ≡ lock_of (length page.old) }
     requires planned { ArePlanned (length page.old) tables.now (length scratch.old) trees.now }
-    ensures { (ps : List Placed)
+    ensures writes { (ps : List Placed)
         → AllZip (IsPlanned (length page.old) tables.now (length scratch.old)) ps trees.now
         → Writes (O.bytes out.old) (O.bytes out.new) (O.faults out.old) (O.faults out.new)
         (flat_map (tree_bytes (length page.old)) ps) result }
+    ensures kept { KeepsSink O.created O.finished O.faults out.old out.new }
 {
     for tree in trees {
         put_tree(tree, tables, lock, scratch, page, out)?;
@@ -123,9 +158,10 @@ fn put_tree<O: Sink>(
     requires lock { lock ≡ lock_of (length page.old) }
     requires planned { (p : Placed)
         × IsPlanned (length page.old) tables.now (length scratch.old) p tree.now }
-    ensures { (p : Placed) → IsPlanned (length page.old) tables.now (length scratch.old) p tree.now
+    ensures writes { (p : Placed) → IsPlanned (length page.old) tables.now (length scratch.old) p tree.now
         → Writes (O.bytes out.old) (O.bytes out.new) (O.faults out.old) (O.faults out.new)
         (tree_bytes (length page.old) p) result }
+    ensures kept { KeepsSink O.created O.finished O.faults out.old out.new }
 {
     let rows = tables[tree.table].rows.as_slice();
     let numbers = Numbering {
@@ -165,10 +201,11 @@ fn put_pages<N: Entries, O: Sink>(
     requires least { 1 ≤ numbers.now.start }
     requires most { numbers.now.start + plan.now.count < 2 ^ 32 - 1 }
     requires first { first ≤ plan.now.count }
-    ensures { (pages : List (List ℕ)) → ArePages (N.entries entries.now)
+    ensures writes { (pages : List (List ℕ)) → ArePages (N.entries entries.now)
         (number_of numbers.now.start numbers.now.lock) plan.now first pages
         → Writes (O.bytes out.old) (O.bytes out.new) (O.faults out.old) (O.faults out.new)
         (paged (length page.old) (number_of numbers.now.start numbers.now.lock) 0 pages) result }
+    ensures kept { KeepsSink O.created O.finished O.faults out.old out.new }
 {
     let mut held = None;
     for j in 0..plan.page_count() - first {
@@ -204,6 +241,7 @@ fn put_one<N: Entries, O: Sink>(
         → Writes (O.bytes out.old) (O.bytes out.new) (O.faults out.old) (O.faults out.new)
         (gap (length page.old) (number_of numbers.now.start numbers.now.lock j)
         ++ slice_index_or pages j []) result }
+    ensures kept { KeepsSink O.created O.finished O.faults out.old out.new }
 {
     put_gap(numbers.number(j), numbers.lock, page, out)?;
     let held = plan.write_next(first + j, numbers, entries, held, scratch, page);
@@ -215,8 +253,9 @@ fn put_one<N: Entries, O: Sink>(
 fn put_gap<O: Sink>(number: u32, lock: u32, page: &mut [u8], out: &mut O) -> Result<(), Failed>
     requires small { lock < 2 ^ 32 - 1 }
     requires lock { lock ≡ lock_of (length page.old) }
-    ensures { Writes (O.bytes out.old) (O.bytes out.new) (O.faults out.old) (O.faults out.new)
+    ensures writes { Writes (O.bytes out.old) (O.bytes out.new) (O.faults out.old) (O.faults out.new)
         (gap (length page.old) number) result }
+    ensures kept { KeepsSink O.created O.finished O.faults out.old out.new }
 {
     if number == lock + 1 {
         page.fill(0);

@@ -11,8 +11,8 @@ use Rattle.db_builder.proofs.writes.put_first.Goals as goal
 pub write_page-requires-clause-plan : goal.write_page-requires-clause-plan
 write_page-requires-clause-plan g c = OfSchema c.args.facts.size c.requires.plan
 
-pub returns : goal.returns
-returns g c =
+pub returns-clause-writes : goal.returns-clause-writes
+returns-clause-writes g c =
     let size = c.args.facts.size in
     let es = g.N.Entries.entries c.args.entries.now in
     let number = number_of c.args.numbers.now.start c.args.numbers.now.lock in

@@ -1,4 +1,5 @@
 use Rattle.std.proofs.Common.{ℕ, List, drop, length}
+use Rattle.page_access.specs.Outside.{KeepsSink}
 use Rattle.page_access.proofs.Gains.{WroteFront}
 use Rattle.tree_writer.specs.Numbers.{number_of}
 use Rattle.tree_writer.specs.Planned.{IsHeld}
@@ -16,3 +17,4 @@ invariant-loop-j g l =
     × ((pages : List (List ℕ)) → ArePages es number l.plan l.first pages
     → WroteFront (s.bytes l.initial.out) (s.bytes l.out) (s.faults l.initial.out) (s.faults l.out)
     (paged (length l.fn.page) number l.j (drop l.j pages)) (paged (length l.fn.page) number 0 pages))
+    × KeepsSink s.created s.finished s.faults l.initial.out l.out

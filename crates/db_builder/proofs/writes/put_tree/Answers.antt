@@ -56,8 +56,8 @@ put_pages-requires-in-Some g c =
     (same_index size longest tables c.as_slice-rows.result.now p t c.in-Some.index c.as_slice.result.now c.as_slice-in-Some.result.now is c.in-Some.is c.as_slice.ensures.value c.as_slice-in-Some.ensures.value rows) in
     record { plan = a.plan; size = a.usable; room = a.room; lock = c.requires.lock; least = a.least; most = a.most; first = omega arith }
 
-pub returns-in-None : goal.returns-in-None
-returns-in-None g c = λ p is.
+pub returns-in-None-clause-writes : goal.returns-in-None-clause-writes
+returns-in-None-clause-writes g c = λ p is.
     let size = length c.args.page.now in
     let longest = length c.args.scratch.now in
     let t = c.args.tree.now in
@@ -66,10 +66,10 @@ returns-in-None g c = λ p is.
     ∙ sym (rows_are tables t.table c.index-tables-tree.result is.there c.index-tables-tree.is) in
     let a = asks size longest c.args.lock tables _ p t is c.requires.lock (same_rows size longest tables c.as_slice-rows.result.now p t is c.in-None.is rows) in
     let pages = tree_pages size p.tree.kind (number_in size p) p.tree.entries in
-    writes_same (ap (λ (f : ℕ → ℕ). paged size f 0 pages) a.number) (c.put_pages.ensures pages a.pages)
+    writes_same (ap (λ (f : ℕ → ℕ). paged size f 0 pages) a.number) (c.put_pages.ensures.writes pages a.pages)
 
-pub returns-in-Some : goal.returns-in-Some
-returns-in-Some g c = λ p is.
+pub returns-in-Some-clause-writes : goal.returns-in-Some-clause-writes
+returns-in-Some-clause-writes g c = λ p is.
     let size = length c.args.page.now in
     let longest = length c.args.scratch.now in
     let t = c.args.tree.now in
@@ -79,4 +79,4 @@ returns-in-Some g c = λ p is.
     let a = asks size longest c.args.lock tables _ p t is c.requires.lock
     (same_index size longest tables c.as_slice-rows.result.now p t c.in-Some.index c.as_slice.result.now c.as_slice-in-Some.result.now is c.in-Some.is c.as_slice.ensures.value c.as_slice-in-Some.ensures.value rows) in
     let pages = tree_pages size p.tree.kind (number_in size p) p.tree.entries in
-    writes_same (ap (λ (f : ℕ → ℕ). paged size f 0 pages) a.number) (c.put_pages-in-Some.ensures pages a.pages)
+    writes_same (ap (λ (f : ℕ → ℕ). paged size f 0 pages) a.number) (c.put_pages-in-Some.ensures.writes pages a.pages)

@@ -61,7 +61,7 @@ returns-in_err-put_first-clause-writes g c =
     let last = paged size (number_of p.start c.lock_of.result) 0 (drop 1 (schema_pages [] size (number_of p.start c.lock_of.result) (schema_seen trees))) in
     let rest = flat_map (tree_bytes size) ps ++ last in
     let began = front_as a.whole (front_start (g.O.Sink.bytes c.args.out.now) (g.O.Sink.faults c.args.out.now) (layout size db)) in
-    front_out rest c.from_residual.ensures.0 began (writes_same a.first c.in_err-put_first.ensures)
+    front_out rest c.from_residual.ensures.0 began (writes_same a.first c.in_err-put_first.ensures.writes)
 
 pub returns-in_err-put_trees-clause-writes : goal.returns-in_err-put_trees-clause-writes
 returns-in_err-put_trees-clause-writes g c =
@@ -76,10 +76,10 @@ returns-in_err-put_trees-clause-writes g c =
     let last = paged size (number_of p.start c.lock_of.result) 0 (drop 1 (schema_pages [] size (number_of p.start c.lock_of.result) (schema_seen trees))) in
     let rest = flat_map (tree_bytes size) ps ++ last in
     let began = front_as a.whole (front_start (g.O.Sink.bytes c.args.out.now) (g.O.Sink.faults c.args.out.now) (layout size db)) in
-    let one = front_step rest began (writes_same a.first c.in_ok-put_first.ensures) in
+    let one = front_step rest began (writes_same a.first c.in_ok-put_first.ensures.writes) in
     let all = zip_by size (length p.scratch.items) (length c.put_first.new.page) (length c.put_first.new.scratch) db.tables.items c.as_slice-tables.result.now ps p.trees.items trees
     (sym page1) (sym room1) (sym c.as_slice-tables.ensures.value) (sym c.as_slice.ensures.value) c.requires.trees in
-    front_out last c.from_residual-in_err-put_trees.ensures.0 one (writes_same (ap (λ s. flat_map (tree_bytes s) ps) page1) (c.in_err-put_trees.ensures ps all))
+    front_out last c.from_residual-in_err-put_trees.ensures.0 one (writes_same (ap (λ s. flat_map (tree_bytes s) ps) page1) (c.in_err-put_trees.ensures.writes ps all))
 
 pub returns-in_err-put_pages-clause-writes : goal.returns-in_err-put_pages-clause-writes
 returns-in_err-put_pages-clause-writes g c =
@@ -94,13 +94,13 @@ returns-in_err-put_pages-clause-writes g c =
     let last = paged size (number_of p.start c.lock_of.result) 0 (drop 1 (schema_pages [] size (number_of p.start c.lock_of.result) (schema_seen trees))) in
     let rest = flat_map (tree_bytes size) ps ++ last in
     let began = front_as a.whole (front_start (g.O.Sink.bytes c.args.out.now) (g.O.Sink.faults c.args.out.now) (layout size db)) in
-    let one = front_step rest began (writes_same a.first c.in_ok-put_first.ensures) in
+    let one = front_step rest began (writes_same a.first c.in_ok-put_first.ensures.writes) in
     let all = zip_by size (length p.scratch.items) (length c.put_first.new.page) (length c.put_first.new.scratch) db.tables.items c.as_slice-tables.result.now ps p.trees.items trees
     (sym page1) (sym room1) (sym c.as_slice-tables.ensures.value) (sym c.as_slice.ensures.value) c.requires.trees in
-    let two = front_step last one (writes_same (ap (λ s. flat_map (tree_bytes s) ps) page1) (c.in_ok-put_trees.ensures ps all)) in
+    let two = front_step last one (writes_same (ap (λ s. flat_map (tree_bytes s) ps) page1) (c.in_ok-put_trees.ensures.writes ps all)) in
     let pages = drop 1 (schema_pages [] size (number_of p.start c.lock_of.result) (schema_seen trees)) in
     front_out [] c.from_residual-in_err-put_pages.ensures.0 (front_as (sym (append-nil last)) two)
-    (writes_same (ap (λ s. paged s (number_of p.start c.lock_of.result) 0 pages) (c.put_trees.auto.page ∙ page1)) (c.in_err-put_pages.ensures pages a.others))
+    (writes_same (ap (λ s. paged s (number_of p.start c.lock_of.result) 0 pages) (c.put_trees.auto.page ∙ page1)) (c.in_err-put_pages.ensures.writes pages a.others))
 
 pub returns-clause-writes : goal.returns-clause-writes
 returns-clause-writes g c =
@@ -115,10 +115,10 @@ returns-clause-writes g c =
     let last = paged size (number_of p.start c.lock_of.result) 0 (drop 1 (schema_pages [] size (number_of p.start c.lock_of.result) (schema_seen trees))) in
     let rest = flat_map (tree_bytes size) ps ++ last in
     let began = front_as a.whole (front_start (g.O.Sink.bytes c.args.out.now) (g.O.Sink.faults c.args.out.now) (layout size db)) in
-    let one = front_step rest began (writes_same a.first c.in_ok-put_first.ensures) in
+    let one = front_step rest began (writes_same a.first c.in_ok-put_first.ensures.writes) in
     let all = zip_by size (length p.scratch.items) (length c.put_first.new.page) (length c.put_first.new.scratch) db.tables.items c.as_slice-tables.result.now ps p.trees.items trees
     (sym page1) (sym room1) (sym c.as_slice-tables.ensures.value) (sym c.as_slice.ensures.value) c.requires.trees in
-    let two = front_step last one (writes_same (ap (λ s. flat_map (tree_bytes s) ps) page1) (c.in_ok-put_trees.ensures ps all)) in
+    let two = front_step last one (writes_same (ap (λ s. flat_map (tree_bytes s) ps) page1) (c.in_ok-put_trees.ensures.writes ps all)) in
     let pages = drop 1 (schema_pages [] size (number_of p.start c.lock_of.result) (schema_seen trees)) in
     front_end (front_step [] (front_as (sym (append-nil last)) two)
-    (writes_same (ap (λ s. paged s (number_of p.start c.lock_of.result) 0 pages) (c.put_trees.auto.page ∙ page1)) (c.in_ok-put_pages.ensures pages a.others)))
+    (writes_same (ap (λ s. paged s (number_of p.start c.lock_of.result) 0 pages) (c.put_trees.auto.page ∙ page1)) (c.in_ok-put_pages.ensures.writes pages a.others)))

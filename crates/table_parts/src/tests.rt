@@ -32,6 +32,49 @@ fn cells(alloc: Global) -> Result<Vec<TakenCell>, AllocError> {
     Ok(cells)
 }
 
+// The numbers of a table's line, of its clashes, and of its pages with unread cells.
+fn numbers(line: &ReportLine) -> [u64; 5] {
+    match line {
+        ReportLine::Table {
+            rows,
+            clashes,
+            misfits,
+            pages,
+            ..
+        } => [*rows, *clashes, *misfits, *pages, 0],
+        ReportLine::Unread { rows, pages, .. } => [*rows, *pages, 0, 0, 0],
+        ReportLine::Clash {
+            page,
+            cell,
+            earlier_page,
+            earlier_cell,
+            key,
+            ..
+        } => [*page, *cell, *earlier_page, *earlier_cell, *key],
+        ReportLine::Cells {
+            page,
+            count,
+            first,
+            ..
+        } => [*page, *count, *first, 0, 0],
+        _ => [0; 5],
+    }
+}
+
+// The numbers of the lines of the table t on three pages, of which page 4 has two unread cells from cell 3 on.
+fn told(alloc: Global, part: &TablePart) -> Result<Vec<[u64; 5]>, AllocError> {
+    let first = Some((3, CellCause::Chain));
+    let notes = [(4, PageNotes { unread: 2, first })];
+    let name = Bytes::copy_of(alloc, b"t")?;
+    let mut lines = Vec::new(alloc);
+    add_lines(alloc, &name, 3, part, &notes, &mut lines)?;
+    let mut told = Vec::new(alloc);
+    for line in &lines {
+        told.push(numbers(line))?;
+    }
+    Ok(told)
+}
+
 #[test]
 fn two_rows_with_one_rowid_keep_the_earlier(rt: HostRuntime) -> Result<(), Fail> {
     let alloc = rt.alloc();
@@ -40,44 +83,11 @@ fn two_rows_with_one_rowid_keep_the_earlier(rt: HostRuntime) -> Result<(), Fail>
         return Ok(());
     };
     let part = part_of(alloc, Reading::Shape(shape), cells(alloc)?)?;
-    let mut lines = Vec::new(alloc);
-    let first = Some((3, CellCause::Chain));
-    let notes = [(4, PageNotes { unread: 2, first })];
-    add_lines(
-        alloc,
-        &Bytes::copy_of(alloc, b"t")?,
-        3,
-        &part,
-        &notes,
-        &mut lines,
-    )?;
-    let [
-        ReportLine::Table {
-            rows: 2,
-            clashes: 1,
-            misfits: 0,
-            pages: 3,
-            ..
-        },
-        ReportLine::Clash {
-            page: 2,
-            cell: 2,
-            earlier_page: 2,
-            earlier_cell: 0,
-            key: 0,
-            ..
-        },
-        ReportLine::Cells {
-            page: 4,
-            count: 2,
-            first: 3,
-            cause: CellCause::Chain,
-        },
-    ] = lines.as_slice()
-    else {
-        assert!(rt; false);
-        return Ok(());
-    };
+    let told = told(alloc, &part)?;
+    assert_eq!(rt;
+        told.as_slice(),
+        [[2, 1, 0, 3, 0], [2, 2, 2, 0, 0], [4, 2, 3, 0, 0]].as_slice()
+    );
     Ok(())
 }
 
@@ -86,31 +96,10 @@ fn a_table_that_is_not_built_keeps_all_cells(rt: HostRuntime) -> Result<(), Fail
     let alloc = rt.alloc();
     let cause = UnreadCause::Double;
     let part = part_of(alloc, Reading::Unread { cause, kind: None }, cells(alloc)?)?;
-    let TablePart::Unread { cells, .. } = &part else {
-        assert!(rt; false);
-        return Ok(());
-    };
-    assert_eq!(rt; cells.len(), 3);
-    let mut lines = Vec::new(alloc);
-    add_lines(
-        alloc,
-        &Bytes::copy_of(alloc, b"t")?,
-        1,
-        &part,
-        &[],
-        &mut lines,
-    )?;
-    let [
-        ReportLine::Unread {
-            rows: 3,
-            pages: 1,
-            cause: UnreadCause::Double,
-            ..
-        },
-    ] = lines.as_slice()
-    else {
-        assert!(rt; false);
-        return Ok(());
-    };
+    let told = told(alloc, &part)?;
+    assert_eq!(rt;
+        told.as_slice(),
+        [[3, 3, 0, 0, 0], [4, 2, 3, 0, 0]].as_slice()
+    );
     Ok(())
 }

@@ -6,12 +6,12 @@ use Rattle.page_size.specs.Fields.{header_of}
 use Rattle.page_size.specs.Rule.{Finding, cut, given_sizing, rule, scored_sizing}
 use Rattle.page_size.specs.Score.{ranking, winner}
 use Rattle.page_size.specs.declared.headers.Header.{Header}
-use Rattle.page_size.specs.declared.finds.Found.{Found}
 use Rattle.page_size.specs.declared.finds.GeoFault.{GeoFault}
 use Rattle.page_size.specs.declared.finds.Origin.TheVariants as origins
 use Rattle.page_size.specs.declared.finds.Sizing.{Sizing}
 use Rattle.page_size.specs.declared.scores.Score.{Score}
 use Rattle.input_pages.specs.Input.{FindsPages, pages_by, pages_of}
+use Rattle.input_pages.specs.declared.inputs.Input.{Input}
 use Rattle.input_pages.specs.declared.faults.InputFault.{InputFault}
 use Rattle.input_pages.specs.declared.faults.InputFault.TheVariants.{TooLarge}
 
@@ -68,16 +68,16 @@ unfolding pages_of
 of_pages limit size reserved all =
     by_length (nat_lt limit (length all)) (length all == 0) (TooLarge (length all)) (pages_by (rule all size reserved)) (by_rule (rule all size reserved) (of_rule all size reserved))
 
-of_found : (result : Result (Option Found) InputFault) (pages : Result (Option Finding) InputFault) → FindsPages result pages → IsNoEmpty pages
-    → IfOk result (λ o. IfSome o (λ f. f.origin ≢ origins.Empty))
+of_found : (result : Result (Option Input) InputFault) (pages : Result (Option Finding) InputFault) → FindsPages result pages → IsNoEmpty pages
+    → IfOk result (λ o. IfSome o (λ i. i.found.origin ≢ origins.Empty))
 of_found (Err fault) pages h from = tt
 of_found (Ok None) pages h from = tt
 of_found (Ok (Some f)) pages h from = subst (λ (p : Result (Option Finding) InputFault). IsNoEmpty p) h from
 
 -- the same of a source that may tell its bytes
-pub from_somewhere : (told told' : Option (List ℕ)) (limit : ℕ) (size reserved : Option ℕ) (result : Result (Option Found) InputFault) → told' ≡ told
+pub from_somewhere : (told told' : Option (List ℕ)) (limit : ℕ) (size reserved : Option ℕ) (result : Result (Option Input) InputFault) → told' ≡ told
     → IfSome told' (λ all. FindsPages result (pages_of limit size reserved all))
-    → IfSome told (λ all. IfOk result (λ o. IfSome o (λ f. f.origin ≢ origins.Empty)))
+    → IfSome told (λ all. IfOk result (λ o. IfSome o (λ i. i.found.origin ≢ origins.Empty)))
 from_somewhere None told' limit size reserved result same h = tt
 from_somewhere (Some all) told' limit size reserved result same h =
     of_found result (pages_of limit size reserved all)

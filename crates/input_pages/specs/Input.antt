@@ -1,13 +1,13 @@
 -- The pages of an input (docs/TEXTS.md, "Statuses"; docs/FORMAT.md, "The page size").
-use Rattle.std.specs.Prelude.{◌≡◌, ◌<◌, ℕ, ◌==◌, nat_lt, Bool, true, false, ◌&&◌, ◌||◌, if◌then◌else◌, List, length, Option, Some, None, option_map, Result, Ok, Err, ⊤}
+use Rattle.std.specs.Prelude.{◌≡◌, ◌≤◌, ◌<◌, ℕ, ◌+◌, ◌-◌, ◌*◌, ◌==◌, nat_lt, Bool, true, false, ◌&&◌, ◌||◌, if◌then◌else◌, List, length, Option, Some, None, option_map, Result, Ok, Err, ⊤}
 use Rattle.page_access.specs.declared.outside.ReadFault.{ReadFault}
 use Rattle.page_access.specs.declared.outside.ReadFault.TheVariants as read
 use Rattle.page_size.specs.Rule.{Finding, finding, rule}
-use Rattle.page_size.specs.declared.finds.Found.{Found}
 use Rattle.page_size.specs.declared.finds.Origin.{Origin}
 use Rattle.page_size.specs.declared.finds.Origin.TheVariants as origins
 use Rattle.page_size.specs.declared.finds.GeoFault.{GeoFault}
 use Rattle.page_size.specs.declared.finds.GeoFault.TheVariants as geo
+use Rattle.input_pages.specs.declared.inputs.Input.{Input}
 use Rattle.input_pages.specs.declared.faults.InputFault.{InputFault}
 use Rattle.input_pages.specs.declared.faults.InputFault.TheVariants.{Source, TooLarge, NoPageSize, NoWholePage, Memory}
 
@@ -34,12 +34,21 @@ pages_of limit page_size reserved bytes =
     if nat_lt limit (length bytes) then Err (TooLarge (length bytes))
     else (if length bytes == 0 then Ok None else pages_by (rule bytes page_size reserved))
 
+-- bytes behind the last whole page
+abbrev pub left_of : List ℕ → Finding → ℕ
+left_of bytes f = length bytes - f.pages * f.size
+
 -- what is found is what the bytes have, but for a source that failed or want of memory
-abbrev pub FindsPages : Result (Option Found) InputFault → Result (Option Finding) InputFault → Type 0
-FindsPages (Ok found) pages = pages ≡ Ok (option_map finding found)
+abbrev pub FindsPages : Result (Option Input) InputFault → Result (Option Finding) InputFault → Type 0
+FindsPages (Ok input) pages = pages ≡ Ok (option_map (λ i. finding i.found) input)
 FindsPages (Err Source) pages = ⊤
 FindsPages (Err Memory) pages = ⊤
 FindsPages (Err fault) pages = pages ≡ Err fault
+
+-- the pages and what is left behind them fit an input of at most `limit` bytes, and less than a page is left
+pub record IsWithin (limit : ℕ) (input : Input) : Type 0 where
+  pub fits : input.found.geometry.pages * input.found.geometry.page_size + input.left ≤ limit
+  pub short : input.left < input.found.geometry.page_size
 
 -- the numbers of a refusal are of its cause
 abbrev pub IsOfInput : {A : Type 0} → ℕ → Result A InputFault → Type 0

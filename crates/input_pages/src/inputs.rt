@@ -1,10 +1,10 @@
 //! How an input is opened.
-ghost use Rattle.std.specs.Prelude.{◌≡◌, ◌≢◌, ◌≤◌, ◌+◌, ◌*◌, ◌/◌, ◌^◌, length, Some, IsTrue, IfOk, IfSome, OnOk, if◌then◌else◌};
+ghost use Rattle.std.specs.Prelude.{◌≡◌, ◌≢◌, ◌≤◌, ◌+◌, ◌/◌, ◌^◌, length, Some, IsTrue, IfOk, IfSome, OnOk, if◌then◌else◌};
 ghost use Rattle.page_access.specs.Files.{IsWhole};
 ghost use Rattle.page_access.specs.Outside.{HasCauseOf, KeepsSource};
 ghost use Rattle.page_access.specs.Pages.{is_page_size};
 ghost use Rattle.page_size.specs.Rule.{finding, is_scored};
-ghost use Rattle.input_pages.specs.Input.{FindsPages, IsOfInput, is_utf16, pages_of};
+ghost use Rattle.input_pages.specs.Input.{FindsPages, IsOfInput, IsWithin, is_utf16, left_of, pages_of};
 
 use crate::faults::InputFault;
 use page_access::{ReadFault, Source};
@@ -13,6 +13,15 @@ use std::alloc::Global;
 
 /// The most bytes of an input.
 pub const MAX_INPUT: u64 = 1 << 28;
+
+/// An input that is not empty, cut into pages.
+#[derive(Clone, Copy, Debug)]
+pub struct Input {
+    /// Its pages.
+    pub found: Found,
+    /// Bytes behind the last whole page, which belong to no page.
+    pub left: u64,
+}
 
 /// Opens the input of this name, of at most `limit` bytes, and finds its pages: none where it is empty.
 /// `page_size` is a page size in bytes, and `reserved`, bytes at the end of each page, leaves 480 of it.
@@ -24,7 +33,7 @@ pub fn open_input<S: Source>(
     limit: u64,
     page_size: Option<u32>,
     reserved: Option<u8>,
-) -> Result<Option<Found>, InputFault>
+) -> Result<Option<Input>, InputFault>
     requires limit { limit ≤ 2 ^ 28 }
     requires size { IfSome page_size (λ s. IsTrue (is_page_size s)) }
     requires enough { IfSome page_size (λ s. IfSome reserved (λ r. r + 480 ≤ s)) }
@@ -32,12 +41,13 @@ pub fn open_input<S: Source>(
     ensures told { IfSome (S.bytes src.old)
         (λ all. FindsPages result (pages_of limit page_size reserved all)) }
     ensures name { OnOk result (S.attached src.new ≡ Some name.now) }
-    ensures whole { IfOk result (λ o. IfSome o (λ f. IfSome (S.bytes src.old)
-        (λ all. IsWhole all f.geometry))) }
-    ensures valid { IfOk result (λ o. IfSome o
-        (λ f. f.geometry.pages * f.geometry.page_size ≤ limit)) }
+    ensures left { IfSome (S.bytes src.old)
+        (λ all. IfOk result (λ o. IfSome o (λ i. i.left ≡ left_of all (finding i.found)))) }
+    ensures whole { IfSome (S.bytes src.old)
+        (λ all. IfOk result (λ o. IfSome o (λ i. IsWhole all i.found.geometry))) }
+    ensures valid { IfOk result (λ o. IfSome o (λ i. IsWithin limit i)) }
     ensures origin { IfSome (S.bytes src.old)
-        (λ _. IfOk result (λ o. IfSome o (λ f. f.origin ≢ Origin.Empty))) }
+        (λ _. IfOk result (λ o. IfSome o (λ i. i.found.origin ≢ Origin.Empty))) }
 
     // refused
     ensures numbers { IsOfInput limit result }
@@ -73,16 +83,17 @@ fn find_pages<S: Source>(
     limit: u64,
     page_size: Option<u32>,
     reserved: Option<u8>,
-) -> Result<Option<Found>, InputFault>
+) -> Result<Option<Input>, InputFault>
     requires limit { limit ≤ 2 ^ 28 }
     requires size { IfSome page_size (λ s. IsTrue (is_page_size s)) }
     requires enough { IfSome page_size (λ s. IfSome reserved (λ r. r + 480 ≤ s)) }
     ensures told { IfSome (S.bytes src.old)
         (λ all. FindsPages result (pages_of limit page_size reserved all)) }
-    ensures whole { IfOk result (λ o. IfSome o (λ f. IfSome (S.bytes src.old)
-        (λ all. IsWhole all f.geometry))) }
-    ensures valid { IfOk result (λ o. IfSome o
-        (λ f. f.geometry.pages * f.geometry.page_size ≤ limit)) }
+    ensures left { IfSome (S.bytes src.old)
+        (λ all. IfOk result (λ o. IfSome o (λ i. i.left ≡ left_of all (finding i.found)))) }
+    ensures whole { IfSome (S.bytes src.old)
+        (λ all. IfOk result (λ o. IfSome o (λ i. IsWhole all i.found.geometry))) }
+    ensures valid { IfOk result (λ o. IfSome o (λ i. IsWithin limit i)) }
     ensures numbers { IsOfInput limit result }
     ensures cause { HasCauseOf InputFault.Source (S.faults src.old) (S.faults src.new) result }
     ensures kept { KeepsSource S.bytes S.attached S.faults S.reads src.old src.new }
@@ -97,7 +108,8 @@ fn find_pages<S: Source>(
         return Ok(None);
     }
     let found = find_geometry(alloc, src, len, page_size, reserved)?;
-    Ok(Some(found))
+    let left = len % u64::from(found.geometry.page_size);
+    Ok(Some(Input { found, left }))
 }
 
 /// The page size is the header's, and the header says that texts are in UTF-16: its encoding is 2 or 3.

@@ -18,8 +18,9 @@ fn set(rt: &impl Abort, bytes: &mut Vec<u8>, at: usize, byte: u8) {
     bytes[at] = byte;
 }
 
-// The size, the number and the origin of the pages of an input of these bytes; none where it is empty.
-fn parts(alloc: Global, bytes: Vec<u8>) -> Result<Option<(u32, u32, Origin)>, InputFault> {
+// The size, the number and the origin of the pages of an input of these bytes, and how many are left behind
+// them; none where it is empty.
+fn parts(alloc: Global, bytes: Vec<u8>) -> Result<Option<(u32, u32, Origin, u64)>, InputFault> {
     let mut src = SureSource::new(bytes);
     match open_input(alloc, &mut src, "input.db", MAX_INPUT, None, None)? {
         Some(found) => Ok(Some((found.geometry.page_size, found.geometry.pages, found.origin))),
@@ -64,7 +65,7 @@ fn bytes_behind_the_last_whole_page_are_no_page(rt: HostRuntime) -> Result<(), F
     let alloc = rt.alloc();
     let mut bytes = zeros(alloc, 1100)?;
     set(&rt, &mut bytes, 16, 2);
-    assert_eq!(rt; parts(alloc, bytes), Ok(Some((512, 2, Origin::Header))));
+    assert_eq!(rt; parts(alloc, bytes), Ok(Some((512, 2, Origin::Header, 76))));
     Ok(())
 }
 
@@ -103,7 +104,7 @@ fn is_utf16_by(
     set(rt, &mut bytes, 59, encoding);
     let mut src = SureSource::new(bytes);
     match open_input(alloc, &mut src, "input.db", MAX_INPUT, page_size, None) {
-        Ok(Some(found)) => Ok(is_utf16(&found)),
+        Ok(Some(input)) => Ok(is_utf16(&input.found)),
         _ => Ok(false),
     }
 }

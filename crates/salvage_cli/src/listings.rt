@@ -49,7 +49,7 @@ pub(crate) fn list<S: Source, R: Sink>(
         request.reserved,
     )?;
     match pages {
-        Some(found) => put_found(alloc, request.mode, &found, src, report),
+        Some(input) => put_found(alloc, request.mode, &input.found, src, report),
         None => finish(report),
     }
 }

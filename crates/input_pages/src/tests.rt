@@ -23,7 +23,10 @@ fn set(rt: &impl Abort, bytes: &mut Vec<u8>, at: usize, byte: u8) {
 fn parts(alloc: Global, bytes: Vec<u8>) -> Result<Option<(u32, u32, Origin, u64)>, InputFault> {
     let mut src = SureSource::new(bytes);
     match open_input(alloc, &mut src, "input.db", MAX_INPUT, None, None)? {
-        Some(found) => Ok(Some((found.geometry.page_size, found.geometry.pages, found.origin))),
+        Some(Input { found, left }) => {
+            let geometry = found.geometry;
+            Ok(Some((geometry.page_size, geometry.pages, found.origin, left)))
+        }
         None => Ok(None),
     }
 }

@@ -1,17 +1,18 @@
 -- What a status says of the told bytes.
-use Rattle.std.proofs.Common.{◌≡◌, ◌⊎◌, ◌<◌, ◌^◌, ◌==◌, ℕ, Bool, true, false, List, length, Option, Some, None, Result, Ok, Err, ap, subst, inl, inr, refl, sym, arith, if◌then◌else◌}
-use Rattle.std.specs.Prelude.{IfSome, IsErrOf, IsOk, nat_lt}
-use Rattle.std.proofs.lemmas.Bool.Decides.{nat_tests}
+use Rattle.std.proofs.Common.{◌≡◌, ◌⊎◌, ◌<◌, ◌^◌, ℕ, Bool, true, false, List, length, Option, Some, None, Result, Ok, Err, ap, subst, inl, inr, refl, sym, arith, if◌then◌else◌}
+use Rattle.std.specs.Prelude.{IfSome, IsErrOf, IsOk}
 use Rattle.command_line.specs.Parts.{Asked}
 use Rattle.command_line.specs.declared.request.Mode.{Mode}
-use Rattle.page_size.specs.Rule.{Finding, rule}
-use Rattle.page_size.specs.declared.finds.GeoFault.{GeoFault}
-use Rattle.page_size.specs.declared.finds.GeoFault.TheVariants as geo
-use Rattle.salvage_cli.specs.Answers.{status_of}
+use Rattle.page_size.specs.Rule.{Finding}
+use Rattle.input_pages.specs.Input.{pages_of}
+use Rattle.input_pages.specs.declared.faults.InputFault.{InputFault as InputFaults}
+use Rattle.input_pages.specs.declared.faults.InputFault.TheVariants as inputs
+use Rattle.input_pages.proofs.Over.{over_limit}
+use Rattle.salvage_cli.specs.Answers.{of_input, status_of}
 use Rattle.salvage_cli.specs.Outcome.{GivesCommand, HasNoPages, IsUtf16, wanted_of}
 use Rattle.salvage_cli.specs.Run.{GivesWanted}
 use Rattle.salvage_cli.proofs.Outcomes.{refused}
-use Rattle.salvage_cli.specs.Wanted.{file_by, listing_of, pages_by, pages_of, refused_by, wanted, wanted_by}
+use Rattle.salvage_cli.specs.Wanted.{file_by, listing_of, refused_by, wanted, wanted_by}
 use Rattle.salvage_cli.specs.declared.faults.Fault.{Fault}
 use Rattle.salvage_cli.specs.declared.faults.Fault.TheVariants.{Usage, InputFault, TooLarge, NoPageSize, NoWholePage, Utf16, ReportFault, Memory}
 
@@ -36,38 +37,31 @@ complete_told F G command None old new answer h f g = tt
 complete_told F G None (Some all) old new answer h f g = λ ok no_f no_g. absurd cc
 complete_told F G (Some asked) (Some all) old new answer h f g = complete_of F G (wanted asked all) old new answer h f g
 
--- the rule refuses no length
-not_by_rule : (found : Result Finding GeoFault) (len : ℕ) → pages_by found ≡ Err (TooLarge len) → ⊥
-not_by_rule (Ok f) len e = cc
-not_by_rule (Err geo.NoPageSize) len e = cc
-not_by_rule (Err (geo.NoWholePage l s)) len e = cc
-not_by_rule (Err geo.Source) len e = cc
-not_by_rule (Err geo.Memory) len e = cc
-
-over_by : (large empty : Bool) (n len : ℕ) (found : Result Finding GeoFault) →
-    (if large then Err (TooLarge n) else (if empty then Ok None else pages_by found)) ≡ Err (TooLarge len) → large ≡ true
-over_by true empty n len found e = refl
-over_by false true n len found e = absurd cc
-over_by false false n len found e = absurd (not_by_rule found len e)
-
 -- no mode refuses a length
 not_by_mode : (refuses : Bool) (text : List ℕ) (len : ℕ) → (if refuses then Err Utf16 else Ok text) ≡ Err (TooLarge len) → ⊥
 not_by_mode true text len e = cc
 not_by_mode false text len e = cc
 
-large_pages : (mode : Mode) (all : List ℕ) (pages : Result (Option Finding) Fault) (len : ℕ) → wanted_by mode all pages ≡ Err (TooLarge len) → pages ≡ Err (TooLarge len)
+-- a refusal of a length is of the input
+large_input : (fault : InputFaults) (len : ℕ) → of_input fault ≡ TooLarge len → fault ≡ inputs.TooLarge len
+large_input inputs.Source len e = absurd cc
+large_input (inputs.TooLarge n) len e = let same : n ≡ len = cc in ap (λ (k : ℕ). inputs.TooLarge k) same
+large_input inputs.NoPageSize len e = absurd cc
+large_input (inputs.NoWholePage n size) len e = absurd cc
+large_input inputs.Memory len e = absurd cc
+
+large_pages : (mode : Mode) (all : List ℕ) (pages : Result (Option Finding) InputFaults) (len : ℕ) → wanted_by mode all pages ≡ Err (TooLarge len)
+    → pages ≡ Err (inputs.TooLarge len)
 large_pages mode all (Ok None) len e = absurd cc
 large_pages mode all (Ok (Some f)) len e = absurd (not_by_mode (refused_by mode f) (listing_of mode (file_by all f)) len e)
-large_pages mode all (Err found) len e = let same : found ≡ TooLarge len = cc in ap (λ (f : Fault). Err f) same
+large_pages mode all (Err found) len e =
+    let same : of_input found ≡ TooLarge len = cc in
+    ap (λ (f : InputFaults). Err f) (large_input found len same)
 
 -- an input that is too large has over 2^28 bytes
 over : (asked : Asked) (all : List ℕ) (len : ℕ) → wanted asked all ≡ Err (TooLarge len) → 2 ^ 28 < length all
-unfolding pages_of
 over asked all len e =
-    let p = large_pages asked.mode all (pages_of asked all) len e in
-    let t : nat_lt (2 ^ 28) (length all) ≡ true =
-    over_by (nat_lt (2 ^ 28) (length all)) (length all == 0) (length all) len (rule all asked.page_size asked.reserved) p in
-    grind (arith, nat_tests)
+    over_limit (2 ^ 28) asked.page_size asked.reserved all len (large_pages asked.mode all (pages_of (2 ^ 28) asked.page_size asked.reserved all) len e)
 
 five_is : {A : Type 0} (answer : Result A Fault) → status_of answer ≡ 5 → (len : ℕ) × (answer ≡ Err (TooLarge len))
 five_is (Ok done) e = absurd (omega arith)

@@ -5,10 +5,8 @@ use Rattle.command_line.specs.declared.words.WordsFault.TheVariants as words
 use Rattle.line_text.specs.Text.{newline}
 use Rattle.dbdata_list.specs.declared.faults.ListFault.{ListFault}
 use Rattle.dbdata_list.specs.declared.faults.ListFault.TheVariants as list
-use Rattle.page_access.specs.declared.outside.ReadFault.{ReadFault}
-use Rattle.page_access.specs.declared.outside.ReadFault.TheVariants as read
-use Rattle.page_size.specs.declared.finds.GeoFault.{GeoFault}
-use Rattle.page_size.specs.declared.finds.GeoFault.TheVariants as geo
+use Rattle.input_pages.specs.declared.faults.InputFault.{InputFault as InputFaults}
+use Rattle.input_pages.specs.declared.faults.InputFault.TheVariants as inputs
 use Rattle.salvage_cli.specs.declared.faults.Fault.{Fault}
 use Rattle.salvage_cli.specs.declared.faults.Fault.TheVariants.{Usage, InputFault, TooLarge, NoPageSize, NoWholePage, Utf16, ReportFault, Memory}
 
@@ -17,17 +15,13 @@ abbrev pub of_words : WordsFault → Fault
 of_words words.Usage = Usage
 of_words words.Memory = Memory
 
--- the refusal where the input is not read
-abbrev pub of_read : ReadFault → Fault
-of_read read.Source = InputFault
-of_read read.Memory = Memory
-
--- the refusal where the pages are not found
-abbrev pub of_geo : GeoFault → Fault
-of_geo geo.NoPageSize = NoPageSize
-of_geo (geo.NoWholePage len size) = NoWholePage len size
-of_geo geo.Source = InputFault
-of_geo geo.Memory = Memory
+-- the refusal where the input gives no pages
+abbrev pub of_input : InputFaults → Fault
+of_input inputs.Source = InputFault
+of_input (inputs.TooLarge len) = TooLarge len
+of_input inputs.NoPageSize = NoPageSize
+of_input (inputs.NoWholePage len size) = NoWholePage len size
+of_input inputs.Memory = Memory
 
 -- the refusal where a listing ends early
 abbrev pub of_list : ListFault → Fault

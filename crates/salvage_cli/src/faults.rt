@@ -1,11 +1,10 @@
 //! Why the program does not do what was asked.
 ghost use Rattle.std.specs.Prelude.{◌≡◌};
-ghost use Rattle.salvage_cli.specs.Answers.{of_geo, of_list, of_read, of_words};
+ghost use Rattle.salvage_cli.specs.Answers.{of_input, of_list, of_words};
 
 use command_line::WordsFault;
 use dbdata_list::ListFault;
-use page_access::ReadFault;
-use page_size::GeoFault;
+use input_pages::InputFault;
 
 /// Why the program does not do what was asked (docs/TEXTS.md, "Statuses").
 #[derive(Clone, Copy, Debug, PartialEq, Eq)]
@@ -47,26 +46,16 @@ impl From<WordsFault> for Fault {
     }
 }
 
-impl From<ReadFault> for Fault {
-    ghost from_gives = { λ fault e. e ≡ of_read fault };
+impl From<InputFault> for Fault {
+    ghost from_gives = { λ fault e. e ≡ of_input fault };
 
-    fn from(fault: ReadFault) -> Self {
+    fn from(fault: InputFault) -> Self {
         match fault {
-            ReadFault::Source => Fault::InputFault,
-            ReadFault::Memory => Fault::Memory,
-        }
-    }
-}
-
-impl From<GeoFault> for Fault {
-    ghost from_gives = { λ fault e. e ≡ of_geo fault };
-
-    fn from(fault: GeoFault) -> Self {
-        match fault {
-            GeoFault::NoPageSize => Fault::NoPageSize,
-            GeoFault::NoWholePage { len, size } => Fault::NoWholePage { len, size },
-            GeoFault::Source => Fault::InputFault,
-            GeoFault::Memory => Fault::Memory,
+            InputFault::Source => Fault::InputFault,
+            InputFault::TooLarge { len } => Fault::TooLarge { len },
+            InputFault::NoPageSize => Fault::NoPageSize,
+            InputFault::NoWholePage { len, size } => Fault::NoWholePage { len, size },
+            InputFault::Memory => Fault::Memory,
         }
     }
 }

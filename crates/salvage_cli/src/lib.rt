@@ -3,7 +3,6 @@
 
 mod adapters;
 mod faults;
-mod inputs;
 mod lines;
 mod listings;
 mod runs;

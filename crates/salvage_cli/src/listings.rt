@@ -10,12 +10,12 @@ ghost use Rattle.salvage_cli.specs.Outcome.{StaysUnfinished};
 ghost use Rattle.salvage_cli.specs.Run.{GivesWanted, HasNumbers, IsEarly, IsLate};
 
 use crate::faults::Fault;
-use crate::inputs::find_pages;
 use crate::schemas::list_schema;
 use command_line::{Mode, Request};
 use dbdata_list::{list_data, list_pointers};
-use page_access::{Geometry, ReadFault, Sink, Source};
-use page_size::{Found, Origin};
+use input_pages::{MAX_INPUT, is_utf16, open_input};
+use page_access::{Geometry, Sink, Source};
+use page_size::Found;
 use std::alloc::Global;
 
 /// Lists the input in the report, and finishes the report.
@@ -40,9 +40,16 @@ pub(crate) fn list<S: Source, R: Sink>(
     ensures unfinished { OnErr result (StaysUnfinished (R.finished report.old)
         (R.finished report.new)) }
 {
-    attach(alloc, request, src)?;
-    match find_pages(alloc, request, src)? {
-        Some(found) => put_found(alloc, request.mode, &found, src, report),
+    let pages = open_input(
+        alloc,
+        src,
+        request.input,
+        MAX_INPUT,
+        request.page_size,
+        request.reserved,
+    )?;
+    match pages {
+        Some(input) => put_found(alloc, request.mode, &input.found, src, report),
         None => finish(report),
     }
 }
@@ -80,20 +87,9 @@ fn is_refused(mode: Mode, found: &Found) -> bool
     ensures { result ≡ refused_by mode (finding found.now) }
 {
     match mode {
-        Mode::Schema => found.origin == Origin::Header && matches!(found.header.encoding, 2 | 3),
+        Mode::Schema => is_utf16(found),
         Mode::Dbdata | Mode::Dbptr => false,
     }
-}
-
-// Attaches the source to the input.
-fn attach<S: Source>(alloc: Global, request: &Request<'_>, src: &mut S) -> Result<(), ReadFault>
-    ensures name { OnOk result (S.attached src.new ≡ Some request.now.input.now) }
-    ensures bytes { S.bytes src.new ≡ S.bytes src.old }
-    ensures source { HasCauseOf ReadFault.Source (S.faults src.old) (S.faults src.new) result }
-{
-    let name = String::from_str(alloc, request.input)?;
-    src.attach(name)?;
-    Ok(())
 }
 
 // Lists a file in the report, and finishes the report.

@@ -20,7 +20,7 @@ use Rattle.salvaged_tables.specs.Fates.{AreFates, TableFate, failed_of, fate_lin
 use Rattle.salvaged_tables.specs.Salvaged.{failed_seen, script_of, stored_tables}
 use Rattle.input_pages.specs.declared.faults.InputFault.{InputFault}
 use Rattle.input_pages.specs.declared.faults.InputFault.TheVariants as inputs
-use Rattle.input_pages.specs.Input.{is_by_header, is_utf16, pages_of}
+use Rattle.input_pages.specs.Input.{is_by_header, is_utf16, left_of, pages_of}
 use Rattle.salvage_core.specs.declared.faults.Fault.{Fault}
 use Rattle.salvage_core.specs.declared.faults.Fault.TheVariants as faults
 use Rattle.salvage_core.specs.declared.gathered.Gathered.{Gathered}
@@ -35,10 +35,7 @@ pub record AreOptions (o : Options) : Type 0 where
 
 -- ---- the lines in front of those of the tables
 
--- the bytes of an input that belong to no page
-abbrev pub left_of : List ℕ → Finding → ℕ
-left_of all f = length all - f.pages * f.size
-
+-- the line of the bytes that belong to no page, where there are any
 abbrev pub left_lines : ℕ → List ReportLine
 left_lines left = if nat_lt 0 left then lines.Left left ∷ [] else []
 
@@ -147,3 +144,26 @@ IsRefused o all fault = ⊥
 abbrev pub Gathers : Options → List ℕ → Result Gathered Fault → Type 0
 Gathers o all (Ok g) = IsPlan o all g
 Gathers o all (Err fault) = IsRefused o all fault
+
+-- ---- steps
+
+-- a file that is cut into these pages
+pub record IsFileOf (f : File) (found : Finding) : Type 0 where
+  pub size_is : f.size ≡ found.size
+  pub usable_is : f.usable ≡ found.usable
+  pub pages_is : f.pages ≡ found.pages
+
+-- a refusal where pages are there
+abbrev pub IsReadAnswer : {A : Type 0} → Result A Fault → Type 0
+IsReadAnswer (Ok done) = ⊤
+IsReadAnswer (Err faults.InputFault) = ⊤
+IsReadAnswer (Err faults.Memory) = ⊤
+IsReadAnswer (Err (faults.Utf16 encoding)) = ⊤
+IsReadAnswer (Err fault) = ⊥
+
+-- what is answered of these pages: what they give, or that their texts are in UTF-16
+abbrev pub IsPagesAnswer : List ℕ → Finding → Result Gathered Fault → Type 0
+IsPagesAnswer all f (Ok g) = (is_utf16 f ≡ false) × IsFilePlan f (left_of all f) (file_by all f) g
+IsPagesAnswer all f (Err (faults.Utf16 encoding)) = (is_utf16 f ≡ true) × (encoding ≡ f.header.encoding)
+IsPagesAnswer all f (Err fault) = IsReadAnswer {A = Gathered} (Err fault)
+

@@ -94,6 +94,13 @@ fn gather_nothing(alloc: Global, opts: &Options) -> Result<Gathered, AllocError>
 
 // What the pages of an input give.
 fn gather_pages<S: Source>(alloc: Global, input: &Input, src: &mut S) -> Result<Gathered, Fault>
+    requires { IsWithin (2 ^ 28) input.now }
+    ensures plan { IfSome (S.bytes src.old) (λ all. input.now.left ≡ left_of all (finding input.now.found)
+        → IsPagesAnswer all (finding input.now.found) result) }
+    ensures sound { IfOk result IsSound }
+    ensures only { IsReadAnswer result }
+    ensures cause { HasCauseOf Fault.InputFault (S.faults src.old) (S.faults src.new) result }
+    ensures kept { KeepsSource S.bytes S.attached S.faults S.reads src.old src.new }
 {
     let found = &input.found;
     if is_utf16(found) {
@@ -109,7 +116,7 @@ fn uses_of<S: Source>(alloc: Global, geo: &Geometry, src: &mut S) -> Result<Foun
     requires few { geo.now.pages * geo.now.page_size ≤ 2 ^ 28 }
     ensures uses { IfOk result (λ u. IfSome (S.bytes src.old)
         (λ all. AreUses (file_of all geo.now) u.uses u.table)) }
-    ensures readings { IfOk result (λ u. HaveReadings geo.now.pages u.uses) }
+    ensures readings { IfOk result (λ u. HaveReadings geo.now.usable geo.now.pages u.uses) }
     ensures lists { IfOk result (λ u. (u.table.pages ≡ geo.now.pages) × (length u.table.lists ≡ 7)) }
     ensures cause { HasCauseOf ReadFault.Source (S.faults src.old) (S.faults src.new) result }
     ensures kept { KeepsSource S.bytes S.attached S.faults S.reads src.old src.new }

@@ -1,0 +1,5 @@
+pub mod Bare
+pub mod Gaining
+pub mod Goes
+pub mod Once
+pub mod Valid

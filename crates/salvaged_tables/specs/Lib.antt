@@ -1,0 +1,4 @@
+pub mod Salvaged
+pub mod Fates
+pub mod Laws
+pub mod Steps

@@ -1,9 +1,9 @@
 -- What is gained by a row, a table, a part and a fate.
-use Rattle.std.proofs.Common.{◌≡◌, ◌≤◌, ℕ, ◌+◌, Bool, Option, Some, List, [], ◌∷◌, ◌++◌, length, map, refl, sym, ◌∙◌, ap, subst, arith, append-nil, Vec, Global}
+use Rattle.std.proofs.Common.{◌≡◌, ◌≤◌, ℕ, Some, List, [], ◌∷◌, ◌++◌, length, map, refl, sym, ◌∙◌, ap, subst, arith, append-nil, length-append, Vec, Global}
 use Rattle.std.specs.Prelude.{unwrap_or}
 use Rattle.std.specs.List.{AllByRecursion, flat_map}
 use Rattle.std.proofs.lemmas.List.{length-map}
-use Rattle.page_walk.specs.Cells.{Outcome, Row, outcome_of, row_of}
+use Rattle.page_walk.specs.Cells.{Row, outcome_of, row_of}
 use Rattle.page_walk.specs.InTurn.{turn_of}
 use Rattle.page_walk.specs.declared.outcomes.TakenCell.{TakenCell}
 use Rattle.page_walk.specs.declared.turns.PageTurn.{PageTurn}
@@ -19,7 +19,6 @@ use Rattle.table_parts.specs.declared.parts.TablePart.TheVariants.{Built, Unread
 use Rattle.table_parts.specs.Lines.{table_lines}
 use Rattle.table_parts.specs.Parts.{IsPart}
 use Rattle.table_shape.specs.Seen.{shape_seen}
-use Rattle.table_shape.specs.Shape.{Shape}
 use Rattle.table_shape.specs.declared.rows.OutRow.{OutRow}
 use Rattle.table_shape.specs.declared.rows.OutTable.{OutTable}
 use Rattle.table_shape.specs.declared.shapes.TableShape.{TableShape}
@@ -32,24 +31,28 @@ use Rattle.salvaged_tables.specs.declared.places.ScriptText.{ScriptText}
 use Rattle.salvaged_tables.specs.declared.salvage.SalvagedTables.{SalvagedTables}
 use Rattle.salvaged_tables.specs.Fates.{StoredTable, built_table, failed_on, part_text, root_of, stored_row, table_with, text_of}
 use Rattle.salvaged_tables.specs.Salvaged.{HavePlaces, failed_seen, lost_seen, row_at, rows_at, stored_table, stored_tables}
-use Rattle.salvaged_tables.specs.Steps.{AreFew, Gains, GainsPart, GainsTable, GainsTables}
+use Rattle.salvaged_tables.specs.Steps.{AreFew, GainsPart, GainsRow, GainsTable, GainsTables}
+use Rattle.salvaged_tables.proofs.Items.{front, nothing}
 
 -- ---- a row
 
-pub rows_more : (rows : List OutRow) (places : List Placed) (o : OutRow) (p : Placed) → length rows ≡ length places
+rows_more : (rows : List OutRow) (places : List Placed) (o : OutRow) (p : Placed) → length rows ≡ length places
     → rows_at (rows ++ o ∷ []) (places ++ p ∷ []) ≡ rows_at rows places ++ row_at o p ∷ []
 rows_more [] [] o p even = refl
 rows_more [] (q ∷ places) o p even = absurd (omega (arith, even))
 rows_more (r ∷ rows) [] o p even = absurd (omega (arith, even))
 rows_more (r ∷ rows) (q ∷ places) o p even = ap (λ (rs : List Row). row_at r q ∷ rs) (rows_more rows places o p (omega (arith, even)))
 
+-- a row and its place are pushed
+pub gains_row : (row : Row) (rows new_rows : List OutRow) (places new_places : List Placed) (o : OutRow) (p : Placed) → row_at o p ≡ row
+    → new_rows ≡ rows ++ o ∷ [] → new_places ≡ places ++ p ∷ [] → GainsRow row rows places new_rows new_places
+gains_row row rows new_rows places new_places o p same pushed placed = record {
+  gained = λ even. ap (λ (rs : List OutRow). rows_at rs new_places) pushed ∙ ap (rows_at (rows ++ o ∷ [])) placed
+      ∙ rows_more rows places o p even ∙ ap (λ (r : Row). rows_at rows places ++ r ∷ []) same;
+  placed = λ even. omega (arith, even, ap length pushed, ap length placed, length-append rows (o ∷ []), length-append places (p ∷ []));
+}
+
 -- ---- a table
-
-front : (a b : ℕ) (xs ys : List ℕ) → a ∷ xs ≡ b ∷ ys → (a ≡ b) × (xs ≡ ys)
-front a b xs ys same = (cc, cc)
-
-nothing : (a : ℕ) (xs : List ℕ) → a ∷ xs ≡ [] → ⊥
-nothing a xs same = cc
 
 tables_more : (tables : List OutTable) (places : List (Vec Placed Global)) (t : OutTable) (p : Vec Placed Global) → HavePlaces tables places
     → stored_tables (tables ++ t ∷ []) (places ++ p ∷ []) ≡ stored_tables tables places ++ stored_table t p ∷ []

@@ -1,45 +1,37 @@
 -- The rows of a schema gone over, one after another.
-use Rattle.std.proofs.Common.{◌≡◌, ◌≤◌, ◌<◌, ◌⊎◌, inl, inr, ℕ, zero, suc, ◌+◌, Bool, true, false, Option, Some, None, List, [], ◌∷◌, ◌++◌, length, map, take, drop, refl, sym, ◌∙◌, ap, subst, arith, append_assoc, append-nil, length-append, Vec, Global}
+use Rattle.std.proofs.Common.{◌≡◌, ℕ, zero, suc, ◌+◌, true, false, Some, None, List, [], ◌∷◌, ◌++◌, length, map, drop, refl, sym, ◌∙◌, ap, subst, arith, append_assoc, append-nil, Vec, Global}
 use Rattle.std.specs.Prelude.{slice_get}
 use Rattle.std.specs.List.{AllByRecursion, flat_map}
 use Rattle.std.specs.Vec.Iter.{into_iter_items, into_iter_len}
 use Rattle.std.proofs.lemmas.Grind.{flat_map-append}
 use Rattle.std.proofs.lemmas.List.{drop_all}
-use Rattle.page_walk.specs.Cells.{Outcome}
 use Rattle.page_walk.specs.InTurn.{turn_of}
 use Rattle.raw_schema.specs.declared.rows.SchemaRow.{SchemaRow}
-use Rattle.raw_schema.specs.Schema.{cells_in}
-use Rattle.report_text.specs.declared.ReportLine.{ReportLine}
 use Rattle.schema_texts.specs.Readings.{is_table, tables_from}
 use Rattle.schema_texts.specs.declared.readings.TableReading.{TableReading}
-use Rattle.tree_uses.specs.Trees.{Tree, tree_of, turns_of}
+use Rattle.tree_uses.specs.Trees.{tree_of, turns_of}
 use Rattle.tree_uses.specs.declared.reads.TreeTurns.{TreeTurns}
 use Rattle.tree_uses.specs.declared.walks.TreeUse.{TreeUse}
 use Rattle.salvaged_tables.specs.declared.places.ScriptText.{ScriptText}
 use Rattle.salvaged_tables.specs.declared.salvage.Left.{Left}
 use Rattle.salvaged_tables.specs.declared.salvage.SalvagedTables.{SalvagedTables}
-use Rattle.salvaged_tables.specs.Fates.{AreFates, StoredTable, TableFate, IsFate, fate_text, table_of, text_of}
+use Rattle.salvaged_tables.specs.Fates.{AreFates, TableFate, IsFate, fate_text, table_of, text_of}
 use Rattle.salvaged_tables.specs.Salvaged.{IsSalvage, failed_seen, lost_seen, script_of}
-use Rattle.salvaged_tables.specs.Steps.{AreFew, AreReady, Gains, GainsTable, Going, HasPlaces, fate_with, tables_in}
+use Rattle.salvaged_tables.specs.Steps.{AreFew, AreReady, GainsTable, Going, fate_with, tables_in}
+use Rattle.salvaged_tables.proofs.Items.{front, nothing}
 
 -- ---- lists
 
-front : {X : Type 0} (a b : X) (xs ys : List X) → a ∷ xs ≡ b ∷ ys → (a ≡ b) × (xs ≡ ys)
-front a b xs ys same = (cc, cc)
-
-nothing : {X : Type 0} (a : X) (xs : List X) → [] ≡ a ∷ xs → ⊥
-nothing a xs same = cc
-
 -- the row in front of which so many stand
 row_at : {X : Type 0} (i : ℕ) (rows : List X) (row : X) (rest : List X) → drop i rows ≡ row ∷ rest → slice_get rows i ≡ Some row
-row_at zero [] row rest at = absurd (nothing row rest at)
+row_at zero [] row rest at = absurd (nothing row rest (sym at))
 row_at zero (r ∷ rows) row rest at = ap Some (front r row rows rest at).0
-row_at (suc i) [] row rest at = absurd (nothing row rest at)
+row_at (suc i) [] row rest at = absurd (nothing row rest (sym at))
 row_at (suc i) (r ∷ rows) row rest at = row_at i rows row rest at
 
 none_mapped : {X Y : Type 0} (f : X → Y) (xs : List X) → map f xs ≡ [] → xs ≡ []
 none_mapped f [] none = refl
-none_mapped f (x ∷ xs) none = absurd (nothing _ _ (sym none))
+none_mapped f (x ∷ xs) none = absurd (nothing _ _ none)
 
 none_long : {X : Type 0} (xs : List X) → length xs ≡ 0 → xs ≡ []
 none_long [] none = refl
@@ -145,7 +137,7 @@ pub no_reading : (rows : List SchemaRow) (rs : List TableReading) (trees : List 
 no_reading rows rs trees turns i left v row is at was none =
     let empty : into_iter_items left.readings ≡ [] = none_long (into_iter_items left.readings) (sym was.readings ∙ none) in
     let here : tables_from i (row ∷ drop (i + 1) rows) ≡ i ∷ tables_from (i + 1) (drop (i + 1) rows) = rw is refl in
-    nothing _ _ (sym (ap (map (λ (r : TableReading). r.row)) empty) ∙ was.numbers ∙ ap (tables_from i) at ∙ here)
+    nothing _ _ (sym (sym (ap (map (λ (r : TableReading). r.row)) empty) ∙ was.numbers ∙ ap (tables_from i) at ∙ here))
 
 pub no_turns : (rows : List SchemaRow) (rs : List TableReading) (trees : List TreeUse) (turns : List TreeTurns) (i : ℕ) (left : Left)
     (v : SalvagedTables) (row : SchemaRow) → is_table row.kind ≡ true → drop i rows ≡ row ∷ drop (i + 1) rows → Going rows rs trees turns i left v

@@ -1,7 +1,7 @@
 -- The tables that are built can be written.
-use Rattle.std.proofs.Common.{◌≡◌, ◌⊎◌, inl, inr, ℕ, suc, ◌+◌, Bool, true, false, not, ◌||◌, if◌then◌else◌, Option, Some, None, List, [], ◌∷◌, ◌++◌, length, map, take, drop, refl, sym, ◌∙◌, ap, subst, arith, append_assoc, append-nil, length-append, Vec, Global}
+use Rattle.std.proofs.Common.{◌≡◌, inl, inr, ℕ, ◌+◌, Bool, true, false, not, ◌||◌, if◌then◌else◌, Option, Some, None, List, [], ◌∷◌, ◌++◌, length, map, take, refl, sym, ◌∙◌, ap, subst, arith, append_assoc, append-nil, length-append, Vec, Global}
 use Rattle.std.specs.Prelude.{is_some, unwrap_or, slice_get}
-use Rattle.std.specs.List.{AllByRecursion, IsDistinct, flat_map, list_any}
+use Rattle.std.specs.List.{AllByRecursion, IsDistinct, flat_map}
 use Rattle.std.specs.Str.{bytes_eq}
 use Rattle.std.proofs.lemmas.Bool.{cases_Bool}
 use Rattle.std.proofs.lemmas.List.{map-append}
@@ -15,13 +15,11 @@ use Rattle.db_builder.specs.Valid.{IsTable}
 use Rattle.page_walk.specs.Cells.{Outcome, Row, row_of}
 use Rattle.page_walk.proofs.Going.{all_append}
 use Rattle.raw_schema.specs.declared.rows.SchemaRow.{SchemaRow}
-use Rattle.report_text.specs.declared.causes.UnreadCause.{UnreadCause}
 use Rattle.report_text.specs.declared.causes.UnreadCause.TheVariants as causes
 use Rattle.schema_texts.specs.Readings.{AreReadings, HasShape, IsReading, IsReadingIn, bar, is_table, table_names, tables_from}
 use Rattle.schema_texts.specs.declared.readings.Reading.{Reading}
 use Rattle.schema_texts.specs.declared.readings.Reading.TheVariants as readings
 use Rattle.schema_texts.specs.declared.readings.TableReading.{TableReading}
-use Rattle.table_fill.specs.Chosen.{AreSorted}
 use Rattle.table_fill.specs.Fates.{held}
 use Rattle.table_fill.proofs.Good.{rows_good}
 use Rattle.table_parts.specs.declared.parts.TablePart.{TablePart}
@@ -39,6 +37,7 @@ use Rattle.salvaged_tables.specs.declared.salvage.SalvagedTables.{SalvagedTables
 use Rattle.salvaged_tables.specs.Fates.{AreFates, IsFate, StoredTable, TableFate, built_table, stored_row, table_of, table_with}
 use Rattle.salvaged_tables.specs.Salvaged.{AreValid, HavePlaces, IsSalvage, rows_at, stored_tables}
 use Rattle.salvaged_tables.proofs.Bare.{rowids_are, stored, stored_are_rows}
+use Rattle.salvaged_tables.proofs.Items.{front, nothing, some_same}
 
 -- ---- a table of a fate
 
@@ -94,14 +93,13 @@ part_stored : (kinds : List (Option Kind)) (pages : ℕ) (row : SchemaRow) (doub
     → IsReading kinds pages row double reading → IsPart reading cells part → AllByRecursion IsStored (built_table row part)
 part_stored kinds pages row double reading cells (Unread cause given) says is = tt
 part_stored kinds pages row double (readings.Unread why kind) cells (Built shape rows left) says is = absurd is
-part_stored kinds pages row double (readings.Shape s) cells (Built shape rows left) says is =
-    (subst (λ (sh : Shape). IsStored (table_with row sh (map row_of rows.items))) (sym is.0)
-    (table_stored row (shape_seen s) (map row_of rows.items) double says.0 says.1
-    (subst (λ (rs : List Row). AreRows (keys_of (shape_seen s)) (map held rs)) (sym is.1.rows_are)
-    (rows_good (keys_of (shape_seen s)) cells is.1.ordered))), tt)
-
-some_same : {X : Type 0} (a b : X) → Some a ≡ Some b → a ≡ b
-some_same a b same = cc
+part_stored kinds pages row double (readings.Shape s) cells (Built shape rows left) says is = (
+  subst (λ (sh : Shape). IsStored (table_with row sh (map row_of rows.items))) (sym is.0)
+      (table_stored row (shape_seen s) (map row_of rows.items) double says.0 says.1
+      (subst (λ (rs : List Row). AreRows (keys_of (shape_seen s)) (map held rs)) (sym is.1.rows_are)
+      (rows_good (keys_of (shape_seen s)) cells is.1.ordered))),
+  tt,
+)
 
 -- the row of a reading is that of its fate
 fate_stored : (kinds : List (Option Kind)) (pages : ℕ) (rows : List SchemaRow) (r : TableReading) (t : Tree) (turns : List (ℕ × List Outcome)) (f : TableFate)
@@ -127,27 +125,23 @@ held_placed [] places even = refl
 held_placed (o ∷ rows) [] even = absurd (omega (arith, even))
 held_placed (o ∷ rows) (p ∷ places) even = ap (λ (rs : List StoredRow). row_seen o ∷ rs) (held_placed rows places (omega (arith, even)))
 
-front : (a b : ℕ) (xs ys : List ℕ) → a ∷ xs ≡ b ∷ ys → (a ≡ b) × (xs ≡ ys)
-front a b xs ys same = (cc, cc)
-
-nothing : (a : ℕ) (xs : List ℕ) → a ∷ xs ≡ [] → ⊥
-nothing a xs same = cc
-
 tables_are : (tables : List OutTable) (places : List (Vec Placed Global)) → HavePlaces tables places
     → AllByRecursion IsStored (stored_tables tables places) → AllByRecursion IsTable tables
 tables_are [] places even all = tt
 tables_are (t ∷ tables) [] even all = absurd (nothing _ _ even)
 tables_are (t ∷ tables) (p ∷ places) even all =
     let both : (length t.rows.items ≡ length p.items) × HavePlaces tables places = front _ _ _ _ even in
-    let same : map held (rows_at t.rows.items p.items) ≡ map row_seen t.rows.items = held_placed t.rows.items p.items both.0 in
-    (record {
-      text = all.0.text;
-      name = all.0.name;
-      unreserved = all.0.unreserved;
-      no_real = all.0.no_real;
-      rowids = subst (AllByRecursion (λ (r : StoredRow). is_some r.rowid ≡ not t.shape.without_rowid)) same all.0.rowids;
-      rows = subst (AreRows (keys_of (shape_seen t.shape))) same all.0.rows;
-    }, tables_are tables places both.1 all.1)
+    let same : map held (rows_at t.rows.items p.items) ≡ map row_seen t.rows.items = held_placed t.rows.items p.items both.0 in (
+      record {
+        text = all.0.text;
+        name = all.0.name;
+        unreserved = all.0.unreserved;
+        no_real = all.0.no_real;
+        rowids = subst (AllByRecursion (λ (r : StoredRow). is_some r.rowid ≡ not t.shape.without_rowid)) same all.0.rowids;
+        rows = subst (AreRows (keys_of (shape_seen t.shape))) same all.0.rows;
+      },
+      tables_are tables places both.1 all.1,
+    )
 
 -- ---- their names
 

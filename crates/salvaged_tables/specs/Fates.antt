@@ -1,6 +1,6 @@
 -- What becomes of a table row of the schema (docs/FORMAT.md, "Tables that are not built" and "Keys and
 -- clashes"; docs/TEXTS.md, "The report").
-use Rattle.std.specs.Prelude.{◌≡◌, ℕ, ℤ, Bool, true, false, if◌then◌else◌, Option, Some, None, unwrap_or, List, [], ◌∷◌, ◌++◌, length, map, slice_get}
+use Rattle.std.specs.Prelude.{◌≡◌, ℕ, ℤ, Bool, true, false, if◌then◌else◌, Option, Some, None, unwrap_or, List, [], ◌∷◌, length, map, slice_get}
 use Rattle.std.specs.List.{flat_map}
 use Rattle.page_walk.specs.declared.causes.CellCause.{CellCause}
 use Rattle.page_walk.specs.declared.causes.CellCause.TheVariants as causes
@@ -20,7 +20,7 @@ use Rattle.table_shape.specs.Shape.{Shape}
 use Rattle.tree_uses.specs.Trees.{Tree}
 use Rattle.salvaged_tables.specs.declared.places.ScriptText.{ScriptText}
 
--- the row, what its text says, the pages of its tree, what becomes of the cells on these, and what it is built of
+-- the row, what its text says, the pages of its tree, what becomes of the cells on these, and what is built
 pub record TableFate : Type 0 where
   pub row : SchemaRow
   pub reading : Reading
@@ -29,7 +29,8 @@ pub record TableFate : Type 0 where
   pub part : TablePart
 
 -- the fate of the row of this reading, with this tree and these turns
-pub record IsFate (rows : List SchemaRow) (r : TableReading) (t : Tree) (turns : List (ℕ × List Outcome)) (f : TableFate) : Type 0 where
+pub record IsFate (rows : List SchemaRow) (r : TableReading) (t : Tree) (turns : List (ℕ × List Outcome))
+    (f : TableFate) : Type 0 where
   pub row_is : slice_get rows r.row ≡ Some f.row
   pub reading_is : f.reading ≡ r.reading
   pub pages_are : f.pages ≡ t.pages
@@ -37,9 +38,11 @@ pub record IsFate (rows : List SchemaRow) (r : TableReading) (t : Tree) (turns :
   pub part_is : IsPart r.reading (cells_in turns) f.part
 
 -- the fates of the table rows: one for each reading, each tree and each list of turns
-abbrev pub AreFates : List SchemaRow → List TableReading → List Tree → List (List (ℕ × List Outcome)) → List TableFate → Type 0
+abbrev pub AreFates : List SchemaRow → List TableReading → List Tree → List (List (ℕ × List Outcome))
+    → List TableFate → Type 0
 AreFates rows [] [] [] [] = Unit {0}
-AreFates rows (r ∷ rs) (t ∷ trees) (ts ∷ turns) (f ∷ fates) = IsFate rows r t ts f × AreFates rows rs trees turns fates
+AreFates rows (r ∷ rs) (t ∷ trees) (ts ∷ turns) (f ∷ fates) =
+    IsFate rows r t ts f × AreFates rows rs trees turns fates
 AreFates rows rs trees turns fates = ⊥
 
 -- ---- the table that is stored
@@ -72,7 +75,8 @@ table_with row shape rows = record {
 
 -- the table of a row, where it is built
 abbrev pub built_table : SchemaRow → TablePart → List StoredTable
-built_table row (parts.Built shape rows left) = table_with row (shape_seen shape) (map row_of rows.items) ∷ []
+built_table row (parts.Built shape rows left) =
+    table_with row (shape_seen shape) (map row_of rows.items) ∷ []
 built_table row (parts.Unread cause cells) = []
 
 abbrev pub table_of : TableFate → List StoredTable
@@ -88,8 +92,8 @@ root_of pages = unwrap_or (slice_get pages 0) 0
 abbrev pub lost_of : TableFate → List (ℕ × Row)
 lost_of f = map (λ (r : Row). (root_of f.pages, r)) (lost_cells f.part)
 
--- a cell with a payload that is not read: its page, its number, the root of its tree, its rowid if it has one, the
--- overflow pages that it took, and why it is not read
+-- a cell with a payload that is not read: its page and number, the root of its tree, its rowid if it has one,
+-- the overflow pages that it took, and why
 pub record Failed : Type 0 where
   pub page : ℕ
   pub cell : ℕ

@@ -10,7 +10,7 @@ use Rattle.table_parts.specs.Laws.{built_rows, lost_cells}
 use Rattle.tree_uses.specs.Trees.{Tree}
 use Rattle.salvaged_tables.specs.Fates.{AreFates, TableFate}
 
--- the readable cells of the tables' trees, the rows of the tables that are built, and the cells that no table has
+-- the readable cells of the tables' trees; the rows of the tables that are built; the cells that no table has
 abbrev pub all_cells : List TableFate → List Row
 all_cells fates = flat_map (λ (f : TableFate). cells_in f.turns) fates
 
@@ -22,6 +22,6 @@ all_lost fates = flat_map (λ (f : TableFate). lost_cells f.part) fates
 
 -- each readable cell is a row of a table or lost, once
 abbrev pub EachCellOnce : Type 0
-EachCellOnce = (rows : List SchemaRow) (rs : List TableReading) (trees : List Tree) (turns : List (List (ℕ × List Outcome)))
-    (fates : List TableFate) → AreFates rows rs trees turns fates
+EachCellOnce = (rows : List SchemaRow) (rs : List TableReading) (trees : List Tree)
+    (turns : List (List (ℕ × List Outcome))) (fates : List TableFate) → AreFates rows rs trees turns fates
     → IsPermutation (all_cells fates) (all_rows fates ++ all_lost fates)

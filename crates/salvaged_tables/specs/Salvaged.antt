@@ -77,8 +77,8 @@ abbrev pub first_text : List TableFate → List ScriptText
 first_text [] = []
 first_text (f ∷ fates) = fate_text f
 
--- The texts of the script, row by row of the schema: an index, a view or a trigger gives its text, and a table where it is
--- not built. The fates are those of the table rows.
+-- The texts of the script, row by row of the schema: that of an index, a view or a trigger, and that of a
+-- table that is not built. The fates are those of the table rows.
 abbrev pub script_of : List SchemaRow → List TableFate → List ScriptText
 script_of [] fates = []
 script_of (row ∷ rows) fates = if is_table row.kind

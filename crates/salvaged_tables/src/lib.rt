@@ -1,5 +1,5 @@
-//! The tables that a schema's rows and the cells of their trees give: those that are built, with where each row
-//! comes from; the cells that no table has; the texts of the script; the lines of the report
+//! What the table rows of a schema and the cells of their trees give: the tables that are built, and where
+//! each row comes from; the cells that no table has; the texts of the script; the lines of the report
 //! (docs/ARCHITECTURE.md, "Rows of a table").
 #![tactic(auto)]
 

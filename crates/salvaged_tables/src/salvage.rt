@@ -3,11 +3,12 @@ ghost use Rattle.std.specs.Prelude.{◌≡◌, ◌∷◌, [], ℕ, true, List, O
 ghost use Rattle.std.specs.List.{AllByRecursion};
 ghost use Rattle.cell_reader.specs.declared.shapes.Kind.{Kind};
 ghost use Rattle.page_walk.specs.Cells.{row_of};
-ghost use Rattle.page_walk.specs.InTurn.{turn_of};
+ghost use Rattle.page_walk.specs.InTurn.{IsSmallTurn, turn_of};
 ghost use Rattle.schema_texts.specs.Readings.{AreReadings, is_table, tables_from};
 ghost use Rattle.table_parts.specs.Lines.{table_lines};
 ghost use Rattle.table_shape.specs.Seen.{shape_seen};
 ghost use Rattle.tree_uses.specs.Trees.{tree_of, turns_of};
+ghost use Rattle.salvaged_tables.specs.Bounds.{AreOnPages};
 ghost use Rattle.salvaged_tables.specs.Fates.{root_of, table_with};
 ghost use Rattle.salvaged_tables.specs.Salvaged.{AreValid, IsSalvage};
 ghost use Rattle.salvaged_tables.specs.Steps.{AreFew, AreReady, GainsPart, GainsTable, GainsTables, Goes};
@@ -52,8 +53,8 @@ struct Left {
     number: usize,
 }
 
-/// What the rows of a schema give, of which `readings` are the table rows', and `trees` and `turns` the trees and the
-/// cells of these.
+/// What the rows of a schema give, in schema order. `readings` are those of its table rows, `trees` and
+/// `turns` their trees and the cells on these pages. Names and texts are copied, cells and values are moved.
 pub fn salvage_tables(
     alloc: Global,
     rows: &[SchemaRow],
@@ -69,6 +70,9 @@ pub fn salvage_tables(
         (IsSalvage rows.now readings.items (map tree_of trees.now) (map turns_of turns.items)) }
     ensures valid { (kinds : List (Option Kind)) (pages : ℕ)
         → AreReadings kinds pages rows.now readings.items → IfOk result (λ v. AreValid v.tables.items) }
+    ensures bounds { (usable pages : ℕ)
+        → AllByRecursion (AllByRecursion (IsSmallTurn usable pages)) (map turns_of turns.items)
+        → IfOk result (AreOnPages pages) }
 {
     let mut left = Left {
         readings: readings.into_iter(),
@@ -193,7 +197,14 @@ fn add_part(
     match part {
         TablePart::Built { shape, rows, left } => {
             add_left(root, left, &mut found.lost)?;
-            add_built(alloc, row, shape, rows, &mut found.tables, &mut found.places)
+            add_built(
+                alloc,
+                row,
+                shape,
+                rows,
+                &mut found.tables,
+                &mut found.places,
+            )
         }
         TablePart::Unread { cells, .. } => {
             add_table_text(alloc, &row.name, &row.sql, &mut found.script)?;
@@ -215,7 +226,10 @@ fn add_built(
         (table_with row.now (shape_seen shape) (map row_of cells.items) ∷ [])
         tables.old.items places.old.items tables.new.items places.new.items) }
 {
-    let PlacedRows { rows, places: found } = placed_rows(alloc, shape.without_rowid, cells)?;
+    let PlacedRows {
+        rows,
+        places: found,
+    } = placed_rows(alloc, shape.without_rowid, cells)?;
     tables.push(OutTable {
         name: Bytes::copy_of(alloc, row.name.as_slice())?,
         text: text_of(alloc, &row.sql)?,

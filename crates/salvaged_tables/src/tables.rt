@@ -1,10 +1,11 @@
 //! The rows of a table with their places, and the cells that are none.
-ghost use Rattle.std.specs.Prelude.{◌≡◌, ◌++◌, ◌∷◌, [], length, map, unwrap_or, if◌then◌else◌, IfOk, OnOk};
+ghost use Rattle.std.specs.Prelude.{◌≡◌, ◌++◌, [], length, map, unwrap_or, if◌then◌else◌, IfOk, OnOk};
 ghost use Rattle.page_walk.specs.Cells.{Row, row_of};
 ghost use Rattle.table_fill.specs.Chosen.{left_seen};
 ghost use Rattle.table_fill.specs.Fates.{Left};
 ghost use Rattle.salvaged_tables.specs.Fates.{stored_row};
 ghost use Rattle.salvaged_tables.specs.Salvaged.{lost_seen, rows_at};
+ghost use Rattle.salvaged_tables.specs.Steps.{GainsRow};
 
 use crate::places::{LostCell, Placed};
 use page_walk::TakenCell;
@@ -45,10 +46,8 @@ fn add_row(
     rows: &mut Vec<OutRow>,
     places: &mut Vec<Placed>,
 ) -> Result<(), AllocError>
-    ensures rows { OnOk result (length rows.old.items ≡ length places.old.items → rows_at rows.new.items places.new.items
-        ≡ rows_at rows.old.items places.old.items ++ stored_row without_rowid (row_of cell) ∷ []) }
-    ensures places { OnOk result (length rows.old.items ≡ length places.old.items
-        → length rows.new.items ≡ length places.new.items) }
+    ensures { OnOk result (GainsRow (stored_row without_rowid (row_of cell))
+        rows.old.items places.old.items rows.new.items places.new.items) }
 {
     let TakenCell {
         place,
@@ -82,7 +81,11 @@ pub(crate) fn text_of(alloc: Global, sql: &Option<Bytes>) -> Result<Bytes, Alloc
 }
 
 /// Appends the cells that are no rows of a table that is built.
-pub(crate) fn add_left(root: u32, left: Vec<LeftCell>, to: &mut Vec<LostCell>) -> Result<(), AllocError>
+pub(crate) fn add_left(
+    root: u32,
+    left: Vec<LeftCell>,
+    to: &mut Vec<LostCell>,
+) -> Result<(), AllocError>
     ensures { OnOk result (map lost_seen to.new.items ≡ map lost_seen to.old.items
         ++ map (λ (r : Row). (root, r)) (map (λ (l : Left). l.row) (map left_seen left.items))) }
 {
@@ -94,7 +97,11 @@ pub(crate) fn add_left(root: u32, left: Vec<LeftCell>, to: &mut Vec<LostCell>) -
 }
 
 /// Appends the cells of a table that is not built.
-pub(crate) fn add_lost(root: u32, cells: Vec<TakenCell>, to: &mut Vec<LostCell>) -> Result<(), AllocError>
+pub(crate) fn add_lost(
+    root: u32,
+    cells: Vec<TakenCell>,
+    to: &mut Vec<LostCell>,
+) -> Result<(), AllocError>
     ensures { OnOk result (map lost_seen to.new.items ≡ map lost_seen to.old.items
         ++ map (λ (r : Row). (root, r)) (map row_of cells.items)) }
 {

@@ -1,4 +1,3 @@
-use Rattle.std.proofs.Common.{◌≡◌}
 use Rattle.salvaged_tables.specs.Steps.{Going}
 use Rattle.salvaged_tables.proofs.salvage.salvage_tables.Given as goal
 

@@ -18,7 +18,7 @@ pub(crate) fn assemble(
     input: &Input,
     found_uses: FoundUses,
 ) -> Result<Gathered, AllocError>
-    requires { HaveReadings input.now.found.geometry.usable input.now.found.geometry.pages found_uses.uses }
+    requires readings { HaveReadings input.now.found.geometry.usable input.now.found.geometry.pages found_uses.uses }
     requires lists { (found_uses.table.pages ≡ input.now.found.geometry.pages) × (length found_uses.table.lists ≡ 7) }
     ensures plan { IfOk result (λ g. (f : File) → IsFileOf f (finding input.now.found) → AreUses f found_uses.uses found_uses.table
         → IsFilePlan (finding input.now.found) input.now.left f g) }

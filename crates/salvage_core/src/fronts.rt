@@ -9,7 +9,7 @@ use page_size::Found;
 use page_walk::{PageNotes, TakenCell};
 use report_text::ReportLine;
 use std::alloc::{AllocError, Global};
-use table_parts::add_notes;
+use table_parts::unread_lines;
 
 /// The lines in front: how the file is cut, the bytes behind its last page, the cells of the schema's tree that are no
 /// rows of it, and its pages with unread cells.
@@ -35,7 +35,7 @@ pub(crate) fn front_lines(
         lines.push(ReportLine::Left { bytes: left })?;
     }
     add_bad(bad, &mut lines)?;
-    add_notes(notes, &mut lines)?;
+    lines.append(&mut unread_lines(alloc, notes)?)?;
     Ok(lines)
 }
 

@@ -27,6 +27,18 @@ pub fn lines_of(
     Ok(lines)
 }
 
+/// The lines of pages with unread cells.
+pub fn unread_lines(
+    alloc: Global,
+    notes: &[(u32, PageNotes)],
+) -> Result<Vec<ReportLine>, AllocError>
+    ensures { IfOk result (λ v. v.items ≡ note_lines notes.now) }
+{
+    let mut lines = Vec::new(alloc);
+    add_notes(notes, &mut lines)?;
+    Ok(lines)
+}
+
 fn add_head(
     alloc: Global,
     name: &Bytes,

@@ -8,3 +8,11 @@ pub mod Ordered
 pub mod Made
 pub mod Loading
 pub mod Standing
+pub mod Sums
+pub mod Lengths
+pub mod Rowids
+pub mod Long
+pub mod Fitting
+pub mod Texts
+pub mod Sized
+pub mod Preparing

@@ -1,5 +1,5 @@
 -- Sums that stay at 2^128 - 1, and the length of a row of the schema.
-use Rattle.std.proofs.Common.{◌≡◌, ◌≤◌, ◌<◌, ◌+◌, ◌-◌, ◌*◌, ◌^◌, ℕ, pos, min, List, [], ◌∷◌, ◌++◌, length, get_or, drop, sum_by, sym, ap, ◌∙◌, refl, subst, arith, map, length-append}
+use Rattle.std.proofs.Common.{◌≡◌, ◌≤◌, ◌<◌, ◌+◌, ◌-◌, ◌*◌, ◌^◌, ℕ, pos, min, List, [], ◌∷◌, ◌++◌, length, get_or, drop, sum_by, sym, ap, ◌∙◌, subst, arith, map, length-append}
 use Rattle.std.specs.Prelude.{if◌then◌else◌, codes, decimal, nat_lt}
 use Rattle.std.proofs.Math.ListN.{drop_of_length-le}
 use Rattle.std.proofs.lemmas.Bool.{lt-ltb}
@@ -18,11 +18,11 @@ use Rattle.table_shape.specs.Seen.{row_seen}
 use Rattle.table_shape.specs.Shape.{IsKeyOf, Shape, key_seen}
 use Rattle.tree_writer.proofs.Writing.{all_at}
 use Rattle.varint_core.specs.Shortest.{spell, varint_len}
-use Rattle.varint_core.proofs.Spelled.{len_is, length-spell}
+use Rattle.varint_core.proofs.Spelled.{len_is, len_least, length-spell}
 use Rattle.record_core.specs.declared.values.Value.TheVariants.{Text, Whole}
 use Rattle.record_core.specs.Record.{body_len}
-use Rattle.record_core.specs.Shortest.{bodies_of, body_of, header_len, serial_type, types_of, whole_type}
-use Rattle.record_core.proofs.Written.{record_len_is}
+use Rattle.record_core.specs.Shortest.{bodies_of, body_of, header_len, record_bytes, serial_type, types_of, whole_type}
+use Rattle.record_core.proofs.Written.{record_len_is, whole_small}
 use Rattle.db_builder.specs.Load.{HaveFewValues, label_load}
 use Rattle.db_builder.specs.Views.{no_row}
 use Rattle.db_builder.proofs.Viewing.{row_is}
@@ -96,15 +96,11 @@ spelled_23 : length (spell 23) ≡ 1
 unfolding varint_len
 spelled_23 = length-spell 23
 
-root_type : serial_type (Whole (pos (2 ^ 30))) ≡ 4
-unfolding whole_type
-root_type = refl
+spelled_one : (n : ℕ) → n ≤ 9 → length (spell n) ≡ 1
+spelled_one n le =
+    let len = len_is n in omega (arith, length-spell n, len.some, len_least n (varint_len n) 1 len (omega arith) (omega (arith, le)))
 
-spelled_4 : length (spell 4) ≡ 1
-unfolding varint_len
-spelled_4 = length-spell 4
-
-root_body : length (body_of (Whole (pos (2 ^ 30)))) ≡ 4
+pub root_body : length (body_of (Whole (pos (2 ^ 30)))) ≡ 4
 unfolding whole_type body_len
 root_body = length-bytes_high_first 4 (low_bytes w64 4 (pos (2 ^ 30)))
 
@@ -117,13 +113,13 @@ unfolding index_name
 index_name_len table number =
     omega (arith, length-append (codes "sqlite_autoindex_") (table ++ (codes "_" ++ decimal number)), length-append table (codes "_" ++ decimal number), length-append (codes "_") (decimal number))
 
--- the lengths of the parts of a row of the schema
-pub label_is : (l : Label) → length l.type_name ≡ 5
-    → label_load l ≡ length (spell (2 * length l.name + 13)) + length (spell (2 * length l.table + 13)) + length l.name + length l.table + 44
-    + length (spell (serial_type l.sql)) + length (body_of l.sql)
-label_is l five =
-    let root = Whole (pos (2 ^ 30)) in
-    let vs = row_values l (2 ^ 30) in
+-- the length of the record of a row of the schema
+pub label_len : (l : Label) (root : ℕ) → length l.type_name ≡ 5
+    → length (record_bytes (row_values l root)) ≡ length (spell (2 * length l.name + 13)) + length (spell (2 * length l.table + 13)) + length l.name + length l.table + 8
+    + length (spell (serial_type l.sql)) + length (body_of l.sql) + length (body_of (Whole (pos root)))
+label_len l number five =
+    let root = Whole (pos number) in
+    let vs = row_values l number in
     let vs1 = Text l.name ∷ Text l.table ∷ root ∷ l.sql ∷ [] in
     let vs2 = Text l.table ∷ root ∷ l.sql ∷ [] in
     let vs3 = root ∷ l.sql ∷ [] in
@@ -139,10 +135,16 @@ label_is l five =
     let b3 = length-append (body_of root) (bodies_of vs4) in
     let b4 = length-append (body_of l.sql) (bodies_of []) in
     let first : length (spell (2 * length l.type_name + 13)) ≡ 1 = ap (λ n. length (spell (2 * n + 13))) five ∙ spelled_23 in
-    let fourth : length (spell (serial_type root)) ≡ 1 = ap (λ n. length (spell n)) root_type ∙ spelled_4 in
+    let fourth : length (spell (serial_type root)) ≡ 1 = spelled_one (serial_type root) (whole_small (pos number)) in
     let types : length (types_of vs) ≡ 2 + length (spell (2 * length l.name + 13)) + length (spell (2 * length l.table + 13)) + length (spell (serial_type l.sql))
     = omega (arith, t0, t1, t2, t3, t4, first, fourth) in
-    let bodies : length (bodies_of vs) ≡ 9 + length l.name + length l.table + length (body_of l.sql)
-    = omega (arith, b0, b1, b2, b3, b4, five, root_body) in
+    let bodies : length (bodies_of vs) ≡ 5 + length l.name + length l.table + length (body_of l.sql) + length (body_of root)
+    = omega (arith, b0, b1, b2, b3, b4, five) in
     let few : length (types_of vs) < 127 = omega (arith, types, spelled_most (2 * length l.name + 13), spelled_most (2 * length l.table + 13), spelled_most (serial_type l.sql)) in
     omega (arith, record_len_is vs (omega arith), small_header (length (types_of vs)) few, types, bodies)
+
+-- the lengths of the parts of a row of the schema
+pub label_is : (l : Label) → length l.type_name ≡ 5
+    → label_load l ≡ length (spell (2 * length l.name + 13)) + length (spell (2 * length l.table + 13)) + length l.name + length l.table + 44
+    + length (spell (serial_type l.sql)) + length (body_of l.sql)
+label_is l five = omega (arith, label_len l (2 ^ 30) five, root_body)

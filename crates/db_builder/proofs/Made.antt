@@ -13,12 +13,12 @@ use Rattle.tree_writer.specs.declared.plans.TreePlan.{TreePlan}
 use Rattle.tree_writer.specs.Entry.{Entry, HaveNoRowids}
 use Rattle.tree_writer.specs.Levels.{tree_line}
 use Rattle.tree_writer.specs.Numbers.{number_of}
-use Rattle.tree_writer.specs.Trees.{IsTreePlan}
+use Rattle.tree_writer.specs.Trees.{IsTreePlan, tree_count}
 use Rattle.db_builder.specs.declared.plans.MadeTree.{MadeTree}
 use Rattle.db_builder.specs.declared.planners.Planner.{Planner}
 use Rattle.db_builder.specs.Layout.{lock_of, row_values, schema_record, start_of}
 use Rattle.db_builder.specs.Prepared.{CanRead, HaveAtMost, planned_entries, rows_at}
-use Rattle.db_builder.specs.SoFar.{IsMade, next_placed}
+use Rattle.db_builder.specs.SoFar.{HasPages, IsMade, next_placed}
 use Rattle.db_builder.specs.Trees.{Tree, index_entry, key_tree, keys_in, rows_in}
 use Rattle.db_builder.specs.Views.{index_entries, row_at}
 use Rattle.tree_writer.proofs.Adding.{map_map}
@@ -46,6 +46,12 @@ pub root_small : (size : ℕ) (kind : Kind) (es : List Entry) (plan : TreePlan) 
     → start + plan.count < 2 ^ 32 - 1 → start + root < 2 ^ 32 - 1
 root_small size kind es plan root start is r most = omega (arith, is.count, r, most, root_within size kind es)
 
+-- a tree's pages have numbers behind those of the others
+pub start_most : (p : Planner) (tree : Tree) (kind : Kind) (es : List Entry) (plan : TreePlan) (start : ℕ) → HasPages p tree → kind ≡ tree.kind → es ≡ tree.entries
+    → IsTreePlan p.page_size kind es plan → start ≤ p.before + 3 → start + plan.count < 2 ^ 32 - 1
+start_most p tree kind es plan start has k e is most =
+    omega (arith, has, most, is.count, ap (λ x. tree_count p.page_size x es) k, ap (tree_count p.page_size tree.kind) e)
+
 pub no_rowids : (parts : List KeyPart) (rows : List OutRow) (order : List ℕ) → HaveNoRowids (index_entries parts rows order)
 no_rowids parts rows [] = tt
 no_rowids parts rows (j ∷ js) = (refl, no_rowids parts rows js)
@@ -63,9 +69,9 @@ record_is_row p tree bytes values start lock index root s l i r v b =
 -- a tree is planned behind the others
 pub made_is : (p : Planner) (number : ℕ) (rows : List OutRow) (tree : Tree) (m : MadeTree) (es : List Entry) → m.tree.table ≡ number → CanRead rows m.tree.index
     → planned_entries rows m.tree.index ≡ es → es ≡ tree.entries → HaveAtMost m.longest es → IsTreePlan p.page_size tree.kind es m.tree.plan
-    → m.tree.start ≡ start_of p.page_size p.before → 1 ≤ m.tree.start → m.tree.start + m.tree.plan.count < 2 ^ 32 - 1 → p.before + m.tree.plan.count < 2 ^ 31
+    → m.tree.start ≡ start_of p.page_size p.before → 1 ≤ m.tree.start → m.tree.start + m.tree.plan.count < 2 ^ 32 - 1
     → m.tree.record ≡ schema_record p.page_size (next_placed p tree) → IsMade p number rows tree m
-made_is p number rows tree m es table can entries same short plan start least most few row = record {
+made_is p number rows tree m es table can entries same short plan start least most row = record {
   planned = λ tables lt at. record {
     there = omega (arith, table, lt);
     can = subst (λ (rs : List OutRow). CanRead rs m.tree.index) (sym at ∙ ap (rows_at tables) (sym table)) can;
@@ -77,5 +83,5 @@ made_is p number rows tree m es table can entries same short plan start least mo
     most = omega (arith, start, most);
     row = row;
   };
-  few = few;
+  count = (subst (λ (xs : List Entry). IsTreePlan p.page_size tree.kind xs m.tree.plan) same plan).count;
 }

@@ -1,10 +1,10 @@
 -- Trees that are planned one behind another.
-use Rattle.std.proofs.Common.{◌≡◌, ◌≤◌, ◌<◌, ◌+◌, ◌++◌, ℕ, zero, suc, List, [], ◌∷◌, length, map, take, get_or, pos, sym, ap, ◌∙◌, refl, subst, arith, append_assoc}
+use Rattle.std.proofs.Common.{◌≡◌, ◌≤◌, ◌<◌, ◌+◌, ◌++◌, ℕ, zero, suc, List, [], ◌∷◌, length, map, take, get_or, pos, sum_by, sym, ap, ◌∙◌, refl, subst, arith, append_assoc}
 use Rattle.std.specs.Prelude.{Some, None, Option, ℤ, ◌<ℤ◌}
 use Rattle.std.specs.List.{AllByRecursion, AllZip, flat_map}
 use Rattle.std.proofs.lemmas.List.{append-nil}
 use Rattle.std.proofs.lemmas.Int.{ints}
-use Rattle.std.proofs.lemmas.List.Sums.{sum_by-append, sum_by-cons}
+use Rattle.std.proofs.lemmas.List.Sums.{sum_by-append, sum_by-cons, sum_by_more, sum_by_more_le}
 use Rattle.table_shape.specs.declared.rows.OutTable.{OutTable}
 use Rattle.tree_writer.specs.Entry.{RowidsRise}
 use Rattle.tree_writer.specs.Trees.{tree_count}
@@ -14,7 +14,8 @@ use Rattle.db_builder.specs.declared.planners.Planner.{Planner}
 use Rattle.db_builder.specs.Layout.{Placed, numbered, pages_of_trees, placed, start_of}
 use Rattle.db_builder.specs.Prepared.{IsPlanned, rows_at}
 use Rattle.db_builder.specs.SoFar.{IsMade, IsSoFar, next_placed}
-use Rattle.db_builder.specs.Trees.{Tree}
+use Rattle.db_builder.specs.Trees.{Tree, table_trees, trees_of}
+use Rattle.db_builder.proofs.Sums.{sum_by-map}
 
 abbrev pub Below : Option ℤ → ℕ → Type 0
 Below None k = Unit {0}
@@ -100,3 +101,51 @@ pub numbered_rise : (low : Option ℤ) (k : ℕ) (xs : List (List ℕ)) → Belo
 numbered_rise low k [] b = tt
 numbered_rise None k (x ∷ xs) b = (pos k, refl, tt, numbered_rise (Some (pos k)) (k + 1) xs (omega (arith, ints)))
 numbered_rise (Some l) k (x ∷ xs) b = (pos k, refl, b, numbered_rise (Some (pos k)) (k + 1) xs (omega (arith, ints)))
+
+-- ---- pages
+
+-- the pages of the trees of all tables
+pages_by : (size : ℕ) (ts : List OutTable) → pages_of_trees size (trees_of ts) ≡ sum_by (λ (t : OutTable). pages_of_trees size (table_trees t)) ts
+pages_by size [] = refl
+pages_by size (t ∷ ts) = omega (
+  arith,
+  sum_by-append (λ (x : Tree). tree_count size x.kind x.entries) (table_trees t) (trees_of ts),
+  sum_by-cons (λ (x : OutTable). pages_of_trees size (table_trees x)) t ts,
+  pages_by size ts,
+)
+
+-- those of the tables so far and of the next one are no more
+pub tables_pages : (size : ℕ) (ts : List OutTable) (i : ℕ) (t : OutTable) → i < length ts → t ≡ get_or ts i t
+    → pages_of_trees size (trees_of (take i ts)) + pages_of_trees size (table_trees t) ≤ pages_of_trees size (trees_of ts)
+tables_pages size ts i t lt is =
+    let pages : OutTable → ℕ = λ x. pages_of_trees size (table_trees x) in
+    omega (arith, pages_by size (take i ts), pages_by size ts, sum_by_more_le pages ts i t lt, ap pages is)
+
+-- the trees of keys, one after another
+pub keys_more : {X : Type 0} (size : ℕ) (first : Tree) (f : X → Tree) (items : List X) (i : ℕ) (x : X) → i < length items → x ≡ get_or items i x
+    → pages_of_trees size (first ∷ map f (take (i + 1) items)) ≡ pages_of_trees size (first ∷ map f (take i items)) + tree_count size (f x).kind (f x).entries
+keys_more size first f items i x lt is =
+    let count : Tree → ℕ = λ t. tree_count size t.kind t.entries in
+    omega (
+      arith,
+      sum_by-cons count first (map f (take (i + 1) items)),
+      sum_by-cons count first (map f (take i items)),
+      sum_by-map count f (take (i + 1) items),
+      sum_by-map count f (take i items),
+      sum_by_more (λ y. count (f y)) items i x lt,
+      ap (λ y. count (f y)) is,
+    )
+
+pub keys_pages : {X : Type 0} (size : ℕ) (first : Tree) (f : X → Tree) (items : List X) (i : ℕ) (x : X) → i < length items → x ≡ get_or items i x
+    → pages_of_trees size (first ∷ map f (take i items)) + tree_count size (f x).kind (f x).entries ≤ pages_of_trees size (first ∷ map f items)
+keys_pages size first f items i x lt is =
+    let count : Tree → ℕ = λ t. tree_count size t.kind t.entries in
+    omega (
+      arith,
+      sum_by-cons count first (map f items),
+      sum_by-cons count first (map f (take i items)),
+      sum_by-map count f items,
+      sum_by-map count f (take i items),
+      sum_by_more_le (λ y. count (f y)) items i x lt,
+      ap (λ y. count (f y)) is,
+    )

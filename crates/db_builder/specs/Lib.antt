@@ -10,3 +10,4 @@ pub mod Written
 pub mod Load
 pub mod Faults
 pub mod Valid
+pub mod Laws

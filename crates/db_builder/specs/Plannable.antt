@@ -1,4 +1,4 @@
--- What a plan asks of a database: that its records can be written, and that its trees are not too large.
+-- What a plan asks of a database: its records can be written, and its trees and pages are not too many.
 use Rattle.std.specs.Prelude.{◌≡◌, ◌<◌, ℕ, ◌^◌, true, false, None, length}
 use Rattle.std.specs.List.{AllByRecursion}
 use Rattle.record_core.specs.Shortest.{IsWritable}
@@ -7,7 +7,7 @@ use Rattle.table_shape.specs.Entries.{entry_parts}
 use Rattle.table_shape.specs.Keys.{KeyParts}
 use Rattle.tree_writer.specs.Entry.{AreEntries, HaveNoRowids, RowidsRise}
 use Rattle.db_builder.specs.declared.databases.OutDb.{OutDb}
-use Rattle.db_builder.specs.Layout.{row_values, schema_entries}
+use Rattle.db_builder.specs.Layout.{page_total, row_values, schema_entries}
 use Rattle.db_builder.specs.Prepared.{AreReadable}
 use Rattle.db_builder.specs.Trees.{Label, key_label, key_tree, keys_in, table_label, table_tree, trees_of}
 use Rattle.db_builder.specs.Views.{HaveIndexRecords}
@@ -36,3 +36,4 @@ pub record CanPrepare (size : ℕ) (db : OutDb) : Type 0 where
   pub tables : AllByRecursion IsPlannable db.tables.items
   pub few : length (trees_of db.tables.items) < 2 ^ 32
   pub schema : AreEntries (schema_entries size (trees_of db.tables.items))
+  pub pages : page_total size (trees_of db.tables.items) < 2 ^ 31

@@ -7,6 +7,7 @@ mod faults;
 mod headers;
 mod indexes;
 mod labels;
+mod laws;
 mod loads;
 mod orders;
 mod places;
@@ -18,6 +19,7 @@ mod writes;
 
 pub use databases::OutDb;
 pub use faults::{BuildFault, PrepareFault};
+pub use laws::a_valid_database_can_be_prepared;
 pub use loads::{a_valid_database_has_few_values, load_of};
 pub use plans::{Prepared, plan_file, prepare};
 pub use writes::build;

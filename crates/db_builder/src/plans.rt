@@ -5,13 +5,14 @@ ghost use Rattle.db_builder.specs.declared.databases.OutDb.{OutDb};
 ghost use Rattle.table_shape.specs.declared.rows.OutTable.{OutTable};
 ghost use Rattle.table_shape.specs.Keys.{keys_seen, parts_seen};
 ghost use Rattle.tree_writer.specs.Entry.{AreEntries, HaveNoRowids, RowidsRise};
-ghost use Rattle.tree_writer.specs.Trees.{IsTreePlan};
-ghost use Rattle.db_builder.specs.Layout.{lock_of, start_of};
-ghost use Rattle.db_builder.specs.Load.{HasFewValues, load};
+ghost use Rattle.tree_writer.specs.Trees.{IsTreePlan, schema_count};
+ghost use Rattle.db_builder.specs.Layout.{lock_of, pages_of_trees, start_of};
+ghost use Rattle.db_builder.specs.Load.{load};
 ghost use Rattle.db_builder.specs.Plannable.{CanPrepare, IsKeyPlannable, IsPlannable};
 ghost use Rattle.db_builder.specs.Prepared.{HaveAtMost, IsPlanned, IsPrepared, rows_at, schema_seen};
-ghost use Rattle.db_builder.specs.SoFar.{IsMade, IsSoFar};
+ghost use Rattle.db_builder.specs.SoFar.{HasPages, IsMade, IsSoFar};
 ghost use Rattle.db_builder.specs.Trees.{Tree, key_tree, keys_in, kind_of, table_tree, table_trees, trees_of};
+ghost use Rattle.db_builder.specs.Valid.{IsValid};
 
 use crate::databases::OutDb;
 use crate::faults::PrepareFault;
@@ -76,12 +77,7 @@ pub fn lock_of(page_size: u32) -> u32
     (1 << 30) / page_size + 1
 }
 
-// The number of pages of a file is below this.
-const MOST_PAGES: u32 = 1 << 31;
-
-/// Plans the file of a database whose load is at most the limit, on pages of `page_size` bytes. It is
-/// asked that such a database can be prepared: that each valid one can is not proved. Want of memory is answered too where the file would have
-/// 2^31 pages or more.
+/// Plans the file of a database whose load is at most the limit, on pages of `page_size` bytes.
 pub fn prepare(
     alloc: Global,
     db: &OutDb,
@@ -90,8 +86,8 @@ pub fn prepare(
 ) -> Result<Prepared, PrepareFault>
     requires least { 512 ≤ page_size }
     requires most { page_size ≤ 65536 }
-    requires few { HasFewValues db.now }
-    requires can { load db.now ≤ limit → CanPrepare page_size db.now }
+    requires valid { IsValid db.now }
+    requires limit { limit ≤ 2 ^ 35 }
     ensures size { IfOk result (λ p. p.page_size ≡ page_size) }
     ensures prepared { IfOk result (λ p. IsPrepared p.page_size db.now p) }
     ensures too_large { (n : ℕ) → IsErrOf result (PrepareFault.TooLarge n)
@@ -105,8 +101,7 @@ pub fn prepare(
     Ok(plan_file(alloc, db, page_size)?)
 }
 
-/// Plans a file of pages of `page_size` bytes. Want of memory is answered too where the file would
-/// have 2^31 pages or more.
+/// Plans a file of pages of `page_size` bytes.
 pub fn plan_file(alloc: Global, db: &OutDb, page_size: u32) -> Result<Prepared, AllocError>
     requires least { 512 ≤ page_size }
     requires most { page_size ≤ 65536 }
@@ -124,6 +119,7 @@ fn plan_trees(alloc: Global, tables: &[OutTable], page_size: u32) -> Result<Plan
     requires most { page_size ≤ 65536 }
     requires can { (t : OutTable) (i : ℕ) → i < length tables.now
         → t ≡ slice_index_or tables.now i t → IsPlannable t }
+    requires pages { pages_of_trees page_size (trees_of tables.now) < 2 ^ 31 }
     ensures { IfOk result (λ p. (p.page_size ≡ page_size) × IsSoFar tables.now (trees_of tables.now) p) }
 {
     let mut planner = Planner {
@@ -139,6 +135,7 @@ fn plan_trees(alloc: Global, tables: &[OutTable], page_size: u32) -> Result<Plan
 }
 
 impl Planner {
+    // The page numbers of a tree behind the trees so far.
     fn numbers(&self) -> Numbering
         ensures start { result.start ≡ start_of self.now.page_size self.now.before }
         ensures lock { result.lock ≡ lock_of self.now.page_size }
@@ -156,7 +153,8 @@ impl Planner {
         number: usize,
         table: &OutTable,
     ) -> Result<(), AllocError>
-        requires { IsPlannable table.now }
+        requires can { IsPlannable table.now }
+        requires pages { self.old.before + pages_of_trees self.old.page_size (table_trees table.now) < 2 ^ 31 }
         ensures size { self.new.page_size ≡ self.old.page_size }
         ensures trees { (tables : List OutTable) (done : List Tree) → number < length tables
             → rows_at tables number ≡ table.now.rows.items → IsSoFar tables done self.old
@@ -179,7 +177,8 @@ impl Planner {
         number: usize,
         table: &OutTable,
     ) -> Result<MadeTree, AllocError>
-        requires { IsPlannable table.now }
+        requires can { IsPlannable table.now }
+        requires pages { HasPages self.now (table_tree table.now) }
         ensures { IfOk result (IsMade self.now number table.now.rows.items (table_tree table.now)) }
     {
         let entries = RowEntries {
@@ -191,7 +190,7 @@ impl Planner {
             kind_of(table.shape.without_rowid),
             &entries,
         )?;
-        let numbers = self.place(&plan)?;
+        let numbers = self.numbers();
         let longest = longest(&entries);
         let values = table_values(alloc, table, numbers.number(plan.root()))?;
         let tree = PlannedTree {
@@ -216,6 +215,7 @@ impl Planner {
         requires rows { length table.now.rows.items < 2 ^ 32 }
         requires keys { keys_seen keys.now ≡ keys_in table.now }
         requires key { IsKeyPlannable table.now (parts_seen key.now) }
+        requires pages { HasPages self.now (key_tree table.now (parts_seen key.now)) }
         ensures { IfOk result (IsMade self.now number table.now.rows.items
             (key_tree table.now (parts_seen key.now))) }
     {
@@ -228,7 +228,7 @@ impl Planner {
             order: order.as_slice(),
         };
         let plan = plan_of(alloc, self.page_size, Kind::Index, &entries)?;
-        let numbers = self.place(&plan)?;
+        let numbers = self.numbers();
         let longest = longest(&entries);
         let values = key_values(alloc, table, key.number, numbers.number(plan.root()))?;
         let tree = PlannedTree {
@@ -241,25 +241,11 @@ impl Planner {
         Ok(MadeTree { tree, longest })
     }
 
-    // The page numbers of a tree behind the trees so far.
-    fn place(&self, plan: &TreePlan) -> Result<Numbering, AllocError>
-        ensures start { IfOk result (λ n. n.start ≡ start_of self.now.page_size self.now.before) }
-        ensures lock { IfOk result (λ n. n.lock ≡ lock_of self.now.page_size) }
-        ensures least { IfOk result (λ n. 1 ≤ n.start) }
-        ensures most { IfOk result (λ n. n.start + plan.now.count < 2 ^ 32 - 1) }
-        ensures few { OnOk result (self.now.before + plan.now.count < 2 ^ 31) }
-    {
-        if plan.page_count() < MOST_PAGES - self.before {
-            Ok(self.numbers())
-        } else {
-            Err(AllocError)
-        }
-    }
-
     // Takes a tree in that is planned behind the trees so far.
     fn add(&mut self, made: MadeTree) -> Result<(), AllocError>
         requires { self.old.before + made.tree.plan.count < 2 ^ 31 }
         ensures size { self.new.page_size ≡ self.old.page_size }
+        ensures before { OnOk result (self.new.before ≡ self.old.before + made.tree.plan.count) }
         ensures trees { (tables : List OutTable) (done : List Tree) (number : ℕ) (tree : Tree)
             → number < length tables → IsMade self.old number (rows_at tables number) tree made
             → IsSoFar tables done self.old
@@ -277,6 +263,7 @@ impl Planner {
     fn finish(self, alloc: Global) -> Result<Prepared, AllocError>
         requires few { length self.trees.items < 2 ^ 32 }
         requires entries { AreEntries (schema_seen self.trees.items) }
+        requires pages { self.before + schema_count self.page_size (schema_seen self.trees.items) < 2 ^ 31 }
         ensures { IfOk result (λ p. (db : OutDb) → IsSoFar db.tables.items (trees_of db.tables.items) self
             → IsPrepared self.page_size db p) }
     {
@@ -284,7 +271,7 @@ impl Planner {
             trees: self.trees.as_slice(),
         };
         let schema = TreePlan::schema(alloc, self.page_size, &entries)?;
-        let numbers = self.place(&schema)?;
+        let numbers = self.numbers();
         let most = self.longest.max(longest(&entries));
         let scratch = vec![in alloc; 0u8; most]?;
         let page = vec![in alloc; 0u8; self.page_size as usize]?;

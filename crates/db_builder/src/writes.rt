@@ -10,10 +10,10 @@ ghost use Rattle.tree_writer.specs.Layout.{schema_pages};
 ghost use Rattle.db_builder.specs.Header.{header_bytes};
 ghost use Rattle.db_builder.specs.Facts.{said};
 ghost use Rattle.db_builder.specs.Layout.{Placed, gap, last_page, layout, lock_of, paged, tree_bytes};
-ghost use Rattle.db_builder.specs.Load.{HasFewValues, load};
-ghost use Rattle.db_builder.specs.Plannable.{CanPrepare};
+ghost use Rattle.db_builder.specs.Load.{load};
 ghost use Rattle.db_builder.specs.Prepared.{ArePlanned, CanRead, IsPlanned, IsPrepared, planned_entries};
 ghost use Rattle.db_builder.specs.Trees.{trees_of};
+ghost use Rattle.db_builder.specs.Valid.{IsValid};
 ghost use Rattle.db_builder.specs.Written.{ArePages};
 
 use crate::databases::OutDb;
@@ -29,8 +29,7 @@ use table_shape::OutTable;
 use tree_writer::{Entries, Numbering, TreePlan};
 
 /// Puts the file of a database whose load is at most the limit into a sink, one page per call, and gives
-/// the number of pages. It is asked that such a database can be prepared. Memory runs out only before the
-/// first page is put.
+/// the number of pages. Memory runs out only before the first page is put.
 pub fn build<O: Sink>(
     alloc: Global,
     db: &OutDb,
@@ -40,8 +39,8 @@ pub fn build<O: Sink>(
 ) -> Result<u32, BuildFault>
     requires least { 512 ≤ page_size }
     requires most { page_size ≤ 65536 }
-    requires few { HasFewValues db.now }
-    requires can { load db.now ≤ limit → CanPrepare page_size db.now }
+    requires valid { IsValid db.now }
+    requires limit { limit ≤ 2 ^ 35 }
     ensures pages { IfOk result (λ n. n ≡ last_page page_size (trees_of db.now.tables.items)) }
     ensures writes { WritesOf BuildFault.Sink (O.bytes out.old) (O.bytes out.new) (O.faults out.old)
         (O.faults out.new) (layout page_size db.now) result }

@@ -1,9 +1,8 @@
 //! The table rows of a schema.
-ghost use Rattle.std.specs.Prelude.{◌≡◌, ◌<◌, ◌^◌, ◌+◌, ◌++◌, ◌∷◌, [], List, ℕ, length, map, IfOk, OnOk};
+ghost use Rattle.std.specs.Prelude.{◌≡◌, ◌<◌, ◌^◌, ◌+◌, length, IfOk, OnOk};
 ghost use Rattle.std.specs.List.{AllByRecursion};
 ghost use Rattle.raw_schema.specs.Bounds.{sql_len};
-ghost use Rattle.table_shape.specs.Names.{is_named};
-ghost use Rattle.schema_texts.specs.Known.{AreRead, Knows};
+ghost use Rattle.schema_texts.specs.Known.{AreRead, Learns, Meets};
 ghost use Rattle.schema_texts.specs.Readings.{AreReadings, IsReading, is_table};
 
 use crate::causes::read_row;
@@ -99,8 +98,8 @@ fn is_table(kind: SchemaKind) -> bool
 
 // Whether a name was met before, the case of ASCII letters ignored; from now on it was.
 fn meet(alloc: Global, names: &mut BTreeSet<Vec<u8>>, name: &Bytes) -> Result<bool, AllocError>
-    ensures met { IfOk result (λ met. (before : List (List ℕ)) → Knows names.old before → met ≡ is_named name.now before) }
-    ensures known { OnOk result ((before : List (List ℕ)) → Knows names.old before → Knows names.new (before ++ name.now ∷ [])) }
+    ensures met { IfOk result (Meets names.old name.now) }
+    ensures known { OnOk result (Learns names.old name.now names.new) }
 {
     let is_new = names.insert(name.as_slice().to_ascii_lowercase(alloc)?)?;
     Ok(!is_new)

@@ -9,7 +9,7 @@ mod parts;
 
 pub use cells::{TableCells, cells_of};
 pub use laws::each_cell_is_kept_or_lost;
-pub use lines::add_lines;
+pub use lines::{lines_of, unread_lines};
 pub use parts::{TablePart, part_of};
 
 #[cfg(test)]

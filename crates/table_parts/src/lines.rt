@@ -10,21 +10,33 @@ use report_text::ReportLine;
 use std::alloc::{AllocError, Global};
 use table_fill::{Fate, LeftCell};
 
-/// Appends the lines of a table of this name, whose tree has so many pages: its own, the clashes, the misfits,
-/// and the pages with unread cells.
-pub fn add_lines(
+/// The lines of a table of this name, whose tree has so many pages: its own, the clashes, the misfits, and the
+/// pages with unread cells.
+pub fn lines_of(
     alloc: Global,
     name: &Bytes,
     pages: u64,
     part: &TablePart,
     notes: &[(u32, PageNotes)],
-    to: &mut Vec<ReportLine>,
-) -> Result<(), AllocError>
-    ensures { OnOk result
-        (to.new.items ≡ to.old.items ++ table_lines name.now pages part.now notes.now) }
+) -> Result<Vec<ReportLine>, AllocError>
+    ensures { IfOk result (λ v. v.items ≡ table_lines name.now pages part.now notes.now) }
 {
-    add_head(alloc, name, pages, part, to)?;
-    add_notes(notes, to)
+    let mut lines = Vec::new(alloc);
+    add_head(alloc, name, pages, part, &mut lines)?;
+    add_notes(notes, &mut lines)?;
+    Ok(lines)
+}
+
+/// The lines of pages with unread cells.
+pub fn unread_lines(
+    alloc: Global,
+    notes: &[(u32, PageNotes)],
+) -> Result<Vec<ReportLine>, AllocError>
+    ensures { IfOk result (λ v. v.items ≡ note_lines notes.now) }
+{
+    let mut lines = Vec::new(alloc);
+    add_notes(notes, &mut lines)?;
+    Ok(lines)
 }
 
 fn add_head(

@@ -1,5 +1,5 @@
 //! Cells of tables made by hand.
-use crate::{TablePart, add_lines, part_of};
+use crate::{TablePart, lines_of, part_of};
 use create_reader::read_create;
 use page_walk::{CellCause, PageNotes, Place, TakenCell};
 use record_core::{Bytes, Value};
@@ -66,8 +66,7 @@ fn told(alloc: Global, part: &TablePart) -> Result<Vec<[u64; 5]>, AllocError> {
     let first = Some((3, CellCause::Chain));
     let notes = [(4, PageNotes { unread: 2, first })];
     let name = Bytes::copy_of(alloc, b"t")?;
-    let mut lines = Vec::new(alloc);
-    add_lines(alloc, &name, 3, part, &notes, &mut lines)?;
+    let lines = lines_of(alloc, &name, 3, part, &notes)?;
     let mut told = Vec::new(alloc);
     for line in &lines {
         told.push(numbers(line))?;

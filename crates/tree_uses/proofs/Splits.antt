@@ -1,5 +1,5 @@
 -- Turns over the pages of trees, tree by tree and joined.
-use Rattle.std.proofs.Common.{◌≡◌, ◌≤◌, ◌⊎◌, inl, inr, ℕ, zero, suc, Option, Some, None, List, [], ◌∷◌, ◌++◌, length, take, drop, refl, sym, ◌∙◌, ap, arith, append-nil, length-append}
+use Rattle.std.proofs.Common.{◌≡◌, ◌≤◌, ◌⊎◌, inl, inr, ℕ, zero, suc, Option, Some, None, List, [], ◌∷◌, ◌++◌, length, take, drop, refl, sym, ◌∙◌, ap, arith, append_assoc, append-nil, length-append}
 use Rattle.std.specs.Prelude.{ℤ}
 use Rattle.std.specs.List.{AllByRecursion, flat_map}
 use Rattle.std.proofs.Math.Seq.{take-append_seam, drop-append_seam}
@@ -116,3 +116,8 @@ front_is {X} a b all n joined few ends =
 pub pages_are : (n : ℕ) (trees : List Tree) → AllByRecursion (IsTreeOf n) trees → ArePages n (pages_in trees)
 pages_are n [] all = tt
 pages_are n (t ∷ trees) all = all_append _ t.pages (pages_in trees) all.0 (pages_are n trees all.1)
+
+-- one of those to come is there
+pub one_more : (now next left rest all : List ℕ) (x : ℕ) → next ≡ now ++ x ∷ [] → left ≡ x ∷ rest → now ++ left ≡ all → next ++ rest ≡ all
+one_more now next left rest all x pushed taken h =
+    ap (λ (ns : List ℕ). ns ++ rest) pushed ∙ append_assoc now (x ∷ []) rest ∙ ap (λ (ns : List ℕ). now ++ ns) (sym taken) ∙ h

@@ -35,6 +35,13 @@ tree_for f list w unused = record { row = w.row; list = list; pages = walk_for f
 abbrev pub pages_of : Tree → List ℕ
 pages_of t = t.pages
 
+-- the row of the schema whose tree it is or shall be
+abbrev pub tree_row : Tree → ℕ
+tree_row t = t.row
+
+abbrev pub wanted_row : WantedTree → ℕ
+wanted_row w = w.row
+
 -- the wanted trees, each over the pages that those before left unused
 abbrev pub walks : File → ℕ → List WantedTree → List ℕ → List Tree
 walks f list wanted unused = in_turn (tree_for f list) pages_of wanted unused

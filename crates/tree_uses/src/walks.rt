@@ -8,7 +8,7 @@ ghost use Rattle.page_access.specs.declared.outside.ReadFault.TheVariants as fau
 ghost use Rattle.page_lists.specs.Table.{Moves, all_moved, unused};
 ghost use Rattle.page_walk.specs.Turns.{ReadsEach};
 ghost use Rattle.page_walk.specs.Walk.{kinds_of};
-ghost use Rattle.tree_uses.specs.Trees.{IsTreeOf, pages_in, tree_for, tree_of, walks};
+ghost use Rattle.tree_uses.specs.Trees.{IsTreeOf, pages_in, tree_for, tree_of, tree_row, walks, wanted_row};
 
 use cell_reader::Kind;
 use page_access::{Geometry, PageCache, ReadFault, Source};
@@ -55,6 +55,7 @@ fn walk_one<S: Source>(
         tree_of t ≡ tree_for (file_of all geo.now) list wanted.now (unused table.old))) }
     ensures moved { IfOk result (λ t. table.new ≡ all_moved (tree_of t).pages list table.old) }
     ensures bound { IfOk result (λ t. IsTreeOf geo.now.pages (tree_of t)) }
+    ensures row { IfOk result (λ t. t.row ≡ wanted.now.row) }
     ensures cause { HasCauseOf faults.Source (S.faults src.old) (S.faults src.new) result }
     ensures kept { KeepsSource S.bytes S.attached S.faults S.reads src.old src.new }
     ensures moves { Moves list table.old table.new }
@@ -112,6 +113,8 @@ pub fn walk_trees<S: Source>(
     ensures bound { IfOk result
         (λ v. AllByRecursion (IsTreeOf geo.now.pages) (map tree_of v.items)) }
     ensures len { IfOk result (λ v. length v.items ≡ length wanted.now) }
+    ensures rows { IfOk result
+        (λ v. map tree_row (map tree_of v.items) ≡ map wanted_row wanted.now) }
     ensures cause { HasCauseOf faults.Source (S.faults src.old) (S.faults src.new) result }
     ensures kept { KeepsSource S.bytes S.attached S.faults S.reads src.old src.new }
     ensures moves { Moves list table.old table.new }

@@ -1,7 +1,7 @@
 -- The parts of the order of use, put together.
 use Rattle.std.proofs.Common.{◌≡◌, ◌≤◌, ℕ, Option, Some, None, List, map, length, refl, ◌∙◌, ap, subst, arith}
 use Rattle.std.specs.Prelude.{IfSome}
-use Rattle.std.specs.List.{concat}
+use Rattle.std.specs.List.{concat, flat_map}
 use Rattle.std.proofs.lemmas.List.FromFn.{length-range_with_len}
 use Rattle.page_access.specs.Files.{file_of}
 use Rattle.page_access.specs.Pages.{File}
@@ -13,16 +13,18 @@ use Rattle.page_lists.proofs.Moves.{IsPartition-fresh, fresh_pages}
 use Rattle.page_lists.proofs.Uses.{Moves-unused, count-list_at, unused-all_moved}
 use Rattle.cell_reader.specs.declared.shapes.Kind.{Kind}
 use Rattle.overflow_chain.specs.declared.TheConstants.{OVERFLOW_LIST}
-use Rattle.page_walk.specs.Cells.{Outcome}
+use Rattle.page_walk.specs.Cells.{Outcome, row_of}
 use Rattle.page_walk.specs.Turns.{chains_on}
 use Rattle.page_walk.specs.Walk.{kinds_of}
-use Rattle.raw_schema.specs.Schema.{SchemaMoves, after_schema, schema_pages, schema_rows}
+use Rattle.page_walk.proofs.Going.{one_told}
+use Rattle.raw_schema.specs.Schema.{SchemaMoves, after_schema, bad_rows, schema_notes, schema_pages, schema_rows}
 use Rattle.raw_schema.specs.declared.TheConstants.{SCHEMA_LIST}
+use Rattle.raw_schema.specs.declared.reading.RawSchema.{RawSchema}
 use Rattle.raw_schema.specs.declared.rows.SchemaRow.{SchemaRow}
-use Rattle.tree_uses.specs.Trees.{Tree, pages_in, turns_in, walks}
+use Rattle.tree_uses.specs.Trees.{Tree, chains_in, pages_in, turns_in, walks}
 use Rattle.schema_texts.specs.Readings.{AreReadings}
 use Rattle.schema_texts.specs.declared.readings.TableReading.{TableReading}
-use Rattle.use_order.specs.Order.{AreInOrder, UsesMove, behind_schema, index_trees, table_tree}
+use Rattle.use_order.specs.Order.{AreInOrder, IsSchema, UsesMove, after_uses, behind_schema, index_trees, table_tree}
 use Rattle.use_order.specs.declared.TheConstants.{INDEX_LIST, TABLE_LIST}
 
 -- there are no more unused pages than pages
@@ -52,7 +54,7 @@ schema_moved a b moves =
     (moved_once OVERFLOW_LIST moves.between b (omega arith) moves.chains)
 
 -- what holds of told bytes
-at_told : (P : List ℕ → Type 0) (o o' : Option (List ℕ)) (all : List ℕ) → o' ≡ o → o ≡ Some all → IfSome o' P → P all
+pub at_told : (P : List ℕ → Type 0) (o o' : Option (List ℕ)) (all : List ℕ) → o' ≡ o → o ≡ Some all → IfSome o' P → P all
 at_told P o o' all same is holds = subst (λ (x : Option (List ℕ)). IfSome x P) (same ∙ is) holds
 
 unused_behind : (f : File) (t : Table) → unused (after_schema f t) ≡ behind_schema f (unused t)
@@ -89,3 +91,20 @@ in_order (Some all) o1 o2 o3 geo t0 t1 t2 t3 survey rows rs tables indexes turns
       turns_are = at_told (λ bytes. turns ≡ turns_in (file_of bytes geo) tables (unused t3)) (Some all) o3 all e3 refl v3
           ∙ ap (turns_in f tables) third;
     }
+
+-- the schema is that of the file
+pub schema_is : (o : Option (List ℕ)) (geo : Geometry) (u : List ℕ) (s : RawSchema) → IfSome o (λ all. s.rows.items ≡ schema_rows (file_of all geo) u)
+    → IfSome o (λ all. map row_of s.bad.items ≡ bad_rows (file_of all geo) u) → IfSome o (λ all. s.pages.items ≡ schema_pages (file_of all geo) u)
+    → IfSome o (λ all. s.notes.items ≡ schema_notes (file_of all geo) u) → IfSome o (λ all. IsSchema (file_of all geo) u s)
+schema_is None geo u s rows bad pages notes = tt
+schema_is (Some all) geo u s rows bad pages notes = record { rows_are = rows; bad_are = bad; pages_are = pages; notes_are = notes }
+
+-- the pages with a use stand in the lists of their uses
+pub table_is : (o : Option (List ℕ)) (geo : Geometry) (t0 t1 t2 t3 t4 : Table) (tables indexes : List Tree) (turns : List (List (ℕ × List Outcome)))
+    → IfSome o (λ all. t1 ≡ after_schema (file_of all geo) t0) → t2 ≡ all_moved (pages_in tables) TABLE_LIST t1
+    → t3 ≡ all_moved (pages_in indexes) INDEX_LIST t2 → t4 ≡ all_moved (flat_map chains_in turns) OVERFLOW_LIST t3
+    → IfSome o (λ all. t4 ≡ after_uses (file_of all geo) t0 tables indexes turns)
+table_is o geo t0 t1 t2 t3 t4 tables indexes turns schema m2 m3 m4 =
+    one_told (λ all. t1 ≡ after_schema (file_of all geo) t0) (λ all. t4 ≡ after_uses (file_of all geo) t0 tables indexes turns) o
+    (λ all e. m4 ∙ ap (all_moved (flat_map chains_in turns) OVERFLOW_LIST)
+    (m3 ∙ ap (all_moved (pages_in indexes) INDEX_LIST) (m2 ∙ ap (all_moved (pages_in tables) TABLE_LIST) e))) schema

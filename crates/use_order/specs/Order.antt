@@ -1,20 +1,24 @@
 -- The uses of pages in order: the schema, the trees of its tables, those of its indexes, and the chains of the tables'
 -- cells (docs/ARCHITECTURE.md, "Order of use").
-use Rattle.std.specs.Prelude.{◌≡◌, ℕ, ◌+◌, Bool, true, false, if◌then◌else◌, Option, Some, List, [], ◌∷◌, ◌++◌, length, map}
+use Rattle.std.specs.Prelude.{◌≡◌, ◌<◌, ℕ, ◌+◌, Bool, true, false, if◌then◌else◌, Option, Some, List, [], ◌∷◌, ◌++◌, length, map}
+use Rattle.std.specs.List.{AllByRecursion, flat_map}
 use Rattle.cell_reader.specs.declared.shapes.Kind.{Kind}
 use Rattle.cell_reader.specs.declared.shapes.Kind.TheVariants as kinds
 use Rattle.page_access.specs.Pages.{File}
 use Rattle.page_lists.specs.Lists.{IsPartOf, minus}
-use Rattle.page_lists.specs.Table.{Table, unused}
-use Rattle.page_walk.specs.Cells.{Outcome}
+use Rattle.page_lists.specs.Table.{Table, all_moved, unused}
+use Rattle.overflow_chain.specs.declared.TheConstants.{OVERFLOW_LIST}
+use Rattle.page_walk.specs.Cells.{Outcome, row_of}
 use Rattle.page_walk.specs.Turns.{chains_on}
 use Rattle.page_walk.specs.Walk.{kinds_of}
-use Rattle.raw_schema.specs.Schema.{schema_pages, schema_rows}
+use Rattle.raw_schema.specs.Schema.{after_schema, bad_rows, schema_notes, schema_pages, schema_rows}
+use Rattle.raw_schema.specs.declared.reading.RawSchema.{RawSchema}
 use Rattle.raw_schema.specs.declared.rows.SchemaKind.{SchemaKind}
 use Rattle.raw_schema.specs.declared.rows.SchemaKind.TheVariants as sorts
 use Rattle.raw_schema.specs.declared.rows.SchemaRow.{SchemaRow}
 use Rattle.table_shape.specs.Seen.{shape_seen}
-use Rattle.tree_uses.specs.Trees.{Tree, pages_in, turns_in, walks}
+use Rattle.tree_uses.specs.Trees.{IsTreeOf, Tree, chains_in, pages_in, tree_of, tree_row, turns_in, walks, wanted_row}
+use Rattle.tree_uses.specs.declared.walks.TreeUse.{TreeUse}
 use Rattle.tree_uses.specs.declared.walks.WantedTree.{WantedTree}
 use Rattle.schema_texts.specs.Readings.{AreReadings, kind_of}
 use Rattle.schema_texts.specs.declared.readings.Reading.{Reading}
@@ -27,6 +31,17 @@ pub record UsesMove (old new : Table) : Type 0 where
   pub same_pages : new.pages ≡ old.pages
   pub same_lists : length new.lists ≡ length old.lists
   pub left : IsPartOf (unused new) (unused old)
+
+-- trees of pages of the file
+abbrev pub AreTreesOf : ℕ → List TreeUse → Type 0
+AreTreesOf pages trees = AllByRecursion (IsTreeOf pages) (map tree_of trees)
+
+-- the schema is that of the file, where these pages are unused at first
+pub record IsSchema (f : File) (unused : List ℕ) (s : RawSchema) : Type 0 where
+  pub rows_are : s.rows.items ≡ schema_rows f unused
+  pub bad_are : map row_of s.bad.items ≡ bad_rows f unused
+  pub pages_are : s.pages.items ≡ schema_pages f unused
+  pub notes_are : s.notes.items ≡ schema_notes f unused
 
 -- ---- the trees that are wanted
 
@@ -51,6 +66,24 @@ index_trees i [] = []
 index_trees i (row ∷ rows) =
     (if is_index row.kind then record { row = i; root = row.root; kind = Some kinds.Index } ∷ [] else []) ++ index_trees (i + 1) rows
 
+-- the row of the schema that a reading is of
+abbrev pub reading_row : TableReading → ℕ
+reading_row r = r.row
+
+-- each tree is that of one of `rows` rows
+abbrev pub AreBelow : ℕ → List Tree → Type 0
+AreBelow rows trees = AllByRecursion (λ (t : Tree). t.row < rows) trees
+
+-- there is a tree for each reading and one for each index row, each with the number of its row, and what becomes of the
+-- cells of each table's tree
+pub record AreMatched (rows : List SchemaRow) (rs : List TableReading) (tables indexes : List Tree)
+    (turns : List (List (ℕ × List Outcome))) : Type 0 where
+  pub tables_are : map tree_row tables ≡ map reading_row rs
+  pub indexes_are : map tree_row indexes ≡ map wanted_row (index_trees 0 rows)
+  pub tables_below : AreBelow (length rows) tables
+  pub indexes_below : AreBelow (length rows) indexes
+  pub turns_are : length turns ≡ length tables
+
 -- ---- the order
 
 -- the pages that the schema leaves unused: its tree and the chains of its cells have theirs
@@ -67,3 +100,8 @@ pub record AreInOrder (f : File) (unused : List ℕ) (rows : List SchemaRow) (rs
   pub tables_are : tables ≡ walks f TABLE_LIST (map table_tree rs) (behind_schema f unused)
   pub indexes_are : indexes ≡ walks f INDEX_LIST (index_trees 0 rows) (minus (behind_schema f unused) (pages_in tables))
   pub turns_are : turns ≡ turns_in f tables (minus (minus (behind_schema f unused) (pages_in tables)) (pages_in indexes))
+
+-- the table after each page with a use moved to the list of its use
+abbrev pub after_uses : File → Table → List Tree → List Tree → List (List (ℕ × List Outcome)) → Table
+after_uses f t tables indexes turns = all_moved (flat_map chains_in turns) OVERFLOW_LIST
+    (all_moved (pages_in indexes) INDEX_LIST (all_moved (pages_in tables) TABLE_LIST (after_schema f t)))

@@ -1,15 +1,19 @@
 //! The uses of pages, in order.
-ghost use Rattle.std.specs.Prelude.{◌≡◌, ◌≤◌, ◌*◌, ◌^◌, length, map, IfOk, IfSome};
+ghost use Rattle.std.specs.Prelude.{◌≡◌, ◌≤◌, ◌*◌, ◌^◌, length, map, IfOk, IfSome, is_ok, if◌then◌else◌};
 ghost use Rattle.std.specs.List.{AllByRecursion};
-ghost use Rattle.page_access.specs.Cache.{IsCacheOf};
+ghost use Rattle.page_access.specs.Cache.{HasAll, IsCacheOf};
 ghost use Rattle.page_access.specs.Files.{file_of};
 ghost use Rattle.page_access.specs.Outside.{HasCauseOf, KeepsSource};
 ghost use Rattle.page_access.specs.declared.outside.ReadFault.TheVariants as faults;
 ghost use Rattle.page_lists.specs.Table.{unused};
 ghost use Rattle.page_walk.specs.InTurn.{IsSmallTurn};
+ghost use Rattle.page_walk.specs.Turns.{ReadsEach};
 ghost use Rattle.page_walk.specs.Walk.{kinds_of};
-ghost use Rattle.tree_uses.specs.Trees.{IsTreeOf, tree_of, turns_of};
-ghost use Rattle.use_order.specs.Order.{AreInOrder, UsesMove};
+ghost use Rattle.raw_schema.specs.Bounds.{IsSmallSchema};
+ghost use Rattle.raw_schema.specs.Schema.{ReadsTwice};
+ghost use Rattle.schema_texts.specs.Readings.{AreReadings};
+ghost use Rattle.tree_uses.specs.Trees.{tree_of, turns_of};
+ghost use Rattle.use_order.specs.Order.{AreInOrder, AreMatched, AreTreesOf, IsSchema, UsesMove, after_uses};
 
 use crate::wants::{index_trees, table_trees};
 use crate::{INDEX_LIST, TABLE_LIST};
@@ -56,14 +60,32 @@ pub fn find_uses<S: Source>(
     ensures order { IfOk result (λ u. IfSome (S.bytes src.old) (λ all.
         AreInOrder (file_of all geo.now) (unused table.old) u.schema.rows.items u.readings.items
         (map tree_of u.tables.items) (map tree_of u.indexes.items) (map turns_of u.turns.items))) }
-    ensures tables { IfOk result (λ u. AllByRecursion (IsTreeOf geo.now.pages) (map tree_of u.tables.items)) }
-    ensures indexes { IfOk result (λ u. AllByRecursion (IsTreeOf geo.now.pages) (map tree_of u.indexes.items)) }
+    ensures schema { IfOk result (λ u. IfSome (S.bytes src.old) (λ all.
+        IsSchema (file_of all geo.now) (unused table.old) u.schema)) }
+    ensures table { IfOk result (λ u. IfSome (S.bytes src.old) (λ all.
+        table.new ≡ after_uses (file_of all geo.now) table.old (map tree_of u.tables.items)
+        (map tree_of u.indexes.items) (map turns_of u.turns.items))) }
+    // told or not
+    ensures readings { IfOk result (λ u.
+        AreReadings survey.now geo.now.pages u.schema.rows.items u.readings.items) }
+    ensures matched { IfOk result (λ u. AreMatched u.schema.rows.items u.readings.items
+        (map tree_of u.tables.items) (map tree_of u.indexes.items) (map turns_of u.turns.items)) }
+    ensures trees { IfOk result (λ u. length u.tables.items ≡ length u.readings.items) }
+    ensures small { IfOk result (λ u. IsSmallSchema geo.now.usable geo.now.pages
+        u.schema.rows.items u.schema.bad.items u.schema.pages.items) }
+    ensures tables { IfOk result (λ u. AreTreesOf geo.now.pages u.tables.items) }
+    ensures indexes { IfOk result (λ u. AreTreesOf geo.now.pages u.indexes.items) }
     ensures turns { IfOk result (λ u. AllByRecursion
         (AllByRecursion (IsSmallTurn geo.now.usable geo.now.pages)) (map turns_of u.turns.items)) }
     ensures moves { UsesMove table.old table.new }
     ensures cause { HasCauseOf faults.Source (S.faults src.old) (S.faults src.new) result }
     ensures kept { KeepsSource S.bytes S.attached S.faults S.reads src.old src.new }
+    ensures reads { ReadsTwice (S.bytes src.old) geo.now table.old table.new
+        (S.reads src.old) (S.reads src.new) (if is_ok result then 0 else 1) }
     ensures cached { IsCacheOf (S.bytes src.old) geo.now cache.new }
+    // where the cache has all pages, each page is read once at most
+    ensures full { HasAll cache.old → HasAll cache.new × ReadsEach (S.bytes src.old) geo.now
+        table.old table.new (S.reads src.old) (S.reads src.new) (if is_ok result then 0 else 1) }
 {
     // tells that the table is a partition
     let _pages = table.pages();

@@ -1,8 +1,9 @@
 use Rattle.std.proofs.Common.{◌≡◌, ◌∙◌, ℕ, List, ap, sym, subst, arith}
 use Rattle.table_shape.specs.declared.rows.OutTable.{OutTable}
 use Rattle.tree_writer.specs.Entry.{AreEntries}
+use Rattle.tree_writer.specs.Trees.{schema_count}
 use Rattle.db_builder.specs.declared.plans.Prepared.{Prepared}
-use Rattle.db_builder.specs.Layout.{placed, schema_entries}
+use Rattle.db_builder.specs.Layout.{pages_of_trees, placed, schema_entries}
 use Rattle.db_builder.specs.Prepared.{IsPlanned, IsPrepared, schema_seen}
 use Rattle.db_builder.specs.SoFar.{IsSoFar}
 use Rattle.db_builder.specs.Trees.{trees_of}
@@ -27,6 +28,14 @@ finish-requires c =
         AllZip-long (IsPlanned p.page_size tables p.longest) (placed p.page_size 0 (trees_of tables)) p.trees.items so.planned,
       );
       entries = subst AreEntries (sym es) c.requires.can.schema;
+      pages = omega (
+        arith,
+        so.before,
+        ap (λ n. pages_of_trees n (trees_of tables)) c.in_ok-planner.ensures.0,
+        ap (schema_count p.page_size) es,
+        ap (λ n. schema_count n (schema_entries c.args.page_size (trees_of tables))) c.in_ok-planner.ensures.0,
+        c.requires.can.pages,
+      );
     }
 
 pub returns : goal.returns

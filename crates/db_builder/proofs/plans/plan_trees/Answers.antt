@@ -3,11 +3,12 @@ use Rattle.std.specs.List.{AllZip}
 use Rattle.std.proofs.lemmas.List.{take_all}
 use Rattle.table_shape.specs.declared.rows.OutTable.{OutTable}
 use Rattle.db_builder.specs.declared.plans.PlannedTree.{PlannedTree}
+use Rattle.db_builder.specs.Layout.{pages_of_trees}
 use Rattle.db_builder.specs.Prepared.{IsPlanned}
 use Rattle.db_builder.specs.SoFar.{IsSoFar}
 use Rattle.db_builder.specs.Trees.{Tree, table_trees, trees_of}
 use Rattle.db_builder.proofs.Planned.{rows_are}
-use Rattle.db_builder.proofs.Taking.{flat_more}
+use Rattle.db_builder.proofs.Taking.{flat_more, tables_pages}
 use Rattle.db_builder.proofs.plans.plan_trees.Goals as goal
 
 pub loop-i-init : goal.loop-i-init
@@ -30,6 +31,20 @@ loop-i-preserved c = (
       subst (λ (xs : List Tree). IsSoFar tables xs c.add_table.new.self) (sym more)
       (c.in_ok-add_table.ensures.trees tables (trees_of (take i tables)) (omega arith) (rows_are tables i t (omega arith) c.index-tables-i.is) c.loop-i.invariant.1)),
 )
+
+pub add_table-requires-clause-pages : goal.add_table-requires-clause-pages
+add_table-requires-clause-pages c =
+    let tables = c.args.tables.now in
+    let t = c.index-tables-i.result in
+    let size = c.loop-i.invariant.0 in
+    omega (
+      arith,
+      c.loop-i.invariant.1.before,
+      ap (λ n. pages_of_trees n (trees_of (take c.loop-i.i tables))) size,
+      ap (λ n. pages_of_trees n (table_trees t)) size,
+      tables_pages c.args.page_size tables c.loop-i.i t (omega arith) c.index-tables-i.is,
+      c.requires.pages,
+    )
 
 pub returns : goal.returns
 returns c = (

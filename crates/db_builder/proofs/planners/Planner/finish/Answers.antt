@@ -1,7 +1,7 @@
 use Rattle.std.proofs.Common.{◌≡◌, ◌∙◌, ◌+◌, ◌-◌, List, ap, subst, refl, arith, length}
 use Rattle.tree_writer.specs.Entry.{Entry}
 use Rattle.tree_writer.specs.Numbers.{number_of}
-use Rattle.tree_writer.specs.Trees.{IsSchemaPlan}
+use Rattle.tree_writer.specs.Trees.{IsSchemaPlan, schema_count}
 use Rattle.db_builder.specs.Layout.{lock_of, page_total, placed, schema_entries, start_of}
 use Rattle.db_builder.specs.Prepared.{HaveAtMost, records_of, schema_seen}
 use Rattle.db_builder.specs.Trees.{trees_of}
@@ -33,9 +33,9 @@ returns c = λ db so.
       few = c.requires.few;
       schema = schema;
       short = subst (HaveAtMost lent) es short;
-      start = c.in_ok-numbers.ensures.start ∙ ap (start_of size) so.before;
-      start_least = c.in_ok-numbers.ensures.least;
-      start_most = c.in_ok-numbers.ensures.most;
-      pages = c.number-pages.ensures ∙ ap (λ l. number_of 1 l (self.before + c.page_count.result - 1)) c.in_ok-numbers.ensures.lock ∙ ap (number_of 1 (lock_of size)) last;
+      start = c.numbers-numbers.ensures.start ∙ ap (start_of size) so.before;
+      start_least = c.numbers-numbers.ensures.least;
+      start_most = omega (arith, c.numbers-numbers.ensures.most, schema.count, ap (schema_count size) es, ap (λ ts. schema_count size (schema_seen ts)) c.as_slice.ensures.value, c.requires.pages);
+      pages = c.number-pages.ensures ∙ ap (λ l. number_of 1 l (self.before + c.page_count.result - 1)) c.numbers-numbers.ensures.lock ∙ ap (number_of 1 (lock_of size)) last;
       page = omega (arith, c.in_ok-page.ensures.len, c.in_ok-page.page.ok.0);
     }

@@ -11,7 +11,7 @@ use Rattle.tree_writer.specs.Trees.{IsTreePlan}
 use Rattle.db_builder.specs.Prepared.{HaveAtMost}
 use Rattle.db_builder.specs.Trees.{key_tree, keys_in}
 use Rattle.db_builder.specs.Views.{HaveIndexRecords, NamesRows, index_entries}
-use Rattle.db_builder.proofs.Made.{index_told, made_is, no_rowids, record_is_row, root_small}
+use Rattle.db_builder.proofs.Made.{index_told, made_is, no_rowids, record_is_row, root_small, start_most}
 use Rattle.db_builder.proofs.planners.Planner.plan_key.Goals as goal
 
 pub plan_of-requires-clause-entries : goal.plan_of-requires-clause-entries
@@ -29,8 +29,14 @@ plan_of-requires-clause-none c = λ e. no_rowids c.as_slice-2.result.now c.as_sl
 pub number-requires-clause-most : goal.number-requires-clause-most
 number-requires-clause-most c =
     let es = index_entries c.as_slice-2.result.now c.as_slice-rows.result.now c.as_slice-3.result.now in
-    root_small c.args.self.now.page_size Index es c.in_ok-plan.plan c.root.result c.in_ok-numbers.numbers.start c.in_ok-plan.ensures
-    (c.root.ensures.tree c.args.self.now.page_size Index es c.in_ok-plan.ensures) c.in_ok-numbers.ensures.most
+    let t = c.args.table.now in
+    let key = parts_seen c.args.key.now in
+    let parts : c.in_ok-parts.parts.items ≡ entry_parts (keys_in t) key = c.in_ok-parts.ensures ∙ ap (λ (k : Keys). entry_parts k key) c.requires.keys in
+    let same : es ≡ (key_tree t key).entries = index_told t key c.as_slice.result.now c.as_slice-2.result.now c.as_slice-rows.result.now c.in_ok-order.order.items c.as_slice-3.result.now
+    (c.as_slice.ensures.value ∙ parts) (c.as_slice-2.ensures.value ∙ parts) c.as_slice-rows.ensures.value c.as_slice-3.ensures.value c.in_ok-order.ensures.order in
+    root_small c.args.self.now.page_size Index es c.in_ok-plan.plan c.root.result c.numbers-numbers.result.start c.in_ok-plan.ensures
+    (c.root.ensures.tree c.args.self.now.page_size Index es c.in_ok-plan.ensures)
+    (start_most c.args.self.now (key_tree t key) Index es c.in_ok-plan.plan c.numbers-numbers.result.start c.requires.pages refl same c.in_ok-plan.ensures c.numbers-numbers.ensures.most)
 
 pub record_of-requires : goal.record_of-requires
 record_of-requires c = subst IsWritable (sym (c.as_slice-4.ensures.value ∙ c.in_ok-values.ensures)) (c.requires.key.label c.number.result)
@@ -58,8 +64,9 @@ returns c =
     })
     kept refl (subst (HaveAtMost c.longest-longest.result) es c.longest-longest.ensures)
     (subst (λ (xs : List Entry). IsTreePlan size Index xs c.in_ok-plan.plan) es c.in_ok-plan.ensures)
-    c.in_ok-numbers.ensures.start c.in_ok-numbers.ensures.least c.in_ok-numbers.ensures.most c.in_ok-numbers.ensures.few
-    (record_is_row self (key_tree t key) c.in_ok-record_of.field-0 c.as_slice-4.result.now c.in_ok-numbers.numbers.start c.in_ok-numbers.numbers.lock c.root.result c.number.result
-    c.in_ok-numbers.ensures.start c.in_ok-numbers.ensures.lock
+    c.numbers-numbers.ensures.start c.numbers-numbers.ensures.least
+    (start_most self (key_tree t key) Index seen c.in_ok-plan.plan c.numbers-numbers.result.start c.requires.pages refl es c.in_ok-plan.ensures c.numbers-numbers.ensures.most)
+    (record_is_row self (key_tree t key) c.in_ok-record_of.field-0 c.as_slice-4.result.now c.numbers-numbers.result.start c.numbers-numbers.result.lock c.root.result c.number.result
+    c.numbers-numbers.ensures.start c.numbers-numbers.ensures.lock
     (c.root.ensures.tree size Index seen c.in_ok-plan.ensures ∙ ap (λ (xs : List Entry). (tree_line size Index 0 xs).right) es)
     c.number.ensures (c.as_slice-4.ensures.value ∙ c.in_ok-values.ensures) c.in_ok-record_of.ensures)

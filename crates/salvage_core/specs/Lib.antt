@@ -1,0 +1,5 @@
+pub mod Faults
+pub mod Outcome
+pub mod Plan
+pub mod Sound
+pub mod Uses

@@ -1,0 +1,20 @@
+//! The salvage of a file: all that its bytes give, gathered, and the three files that are made of it
+//! (docs/ARCHITECTURE.md, "Order of use").
+#![tactic(auto)]
+
+mod assemble;
+mod faults;
+mod fronts;
+mod gather;
+mod gathered;
+mod options;
+mod recovers;
+
+pub use faults::Fault;
+pub use gather::gather;
+pub use gathered::Gathered;
+pub use options::Options;
+pub use recovers::{Summary, recover};
+
+#[cfg(test)]
+mod tests;

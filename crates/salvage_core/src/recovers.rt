@@ -1,0 +1,110 @@
+//! The salvage.
+ghost use Rattle.std.specs.Prelude.{◌≡◌, ◌≤◌, ◌^◌, ◌-◌, min, length, sum_by, Some, IfOk, OnOk, string_bytes};
+ghost use Rattle.page_access.specs.Outside.{HasCauseOf};
+ghost use Rattle.table_shape.specs.declared.rows.OutTable.{OutTable};
+ghost use Rattle.db_builder.specs.Prepared.{IsPrepared};
+ghost use Rattle.salvage_core.specs.Plan.{AreOptions};
+ghost use Rattle.salvage_core.specs.Outcome.{Ends, HasNumbers, IsBefore, IsBeforeReport, IsBeforeScript, turn_of};
+
+use crate::{Fault, Gathered, Options, gather};
+use db_builder::{Prepared, prepare};
+use page_access::{Sink, Source};
+use salvage_files::{write_database, write_report, write_script};
+use std::alloc::Global;
+use table_shape::OutTable;
+
+/// What a salvage did.
+#[derive(Clone, Copy, Debug, PartialEq, Eq)]
+pub struct Summary {
+    /// Pages of the input.
+    pub pages_in: u32,
+    /// Pages of the database that was written.
+    pub pages_out: u32,
+    /// Rows of its tables.
+    pub rows: u64,
+}
+
+/// Recovers what the input of this name holds: a database goes to `out`, under the name `output`, the texts of what is not built to
+/// `script`, and what was found to `report`, in this order. All memory is taken before `out` is created.
+pub fn recover<S: Source, O: Sink, T: Sink, R: Sink>(
+    alloc: Global,
+    opts: &Options,
+    input: &str,
+    output: &str,
+    script_name: &str,
+    src: &mut S,
+    out: &mut O,
+    script: &mut T,
+    report: &mut R,
+) -> Result<Summary, Fault>
+    requires { AreOptions opts.now }
+    // what is done, and each refusal by its cause
+    ensures ends { Ends opts.now (S.bytes src.old) (record {
+        database = output.now; script = script_name.now;
+        out_turn = turn_of O.bytes O.created O.finished O.faults out.old out.new;
+        script_turn = turn_of T.bytes T.created T.finished T.faults script.old script.new;
+        report_turn = turn_of R.bytes R.created R.finished R.faults report.old report.new }) result }
+    ensures name { OnOk result (S.attached src.new ≡ Some input.now) }
+    ensures numbers { HasNumbers opts.now result }
+
+    // faults of the outside
+    ensures source { HasCauseOf Fault.InputFault (S.faults src.old) (S.faults src.new) result }
+    ensures output { HasCauseOf Fault.OutputFault (O.faults out.old) (O.faults out.new) result }
+    ensures script { HasCauseOf Fault.ScriptFault (T.faults script.old) (T.faults script.new) result }
+    ensures report { HasCauseOf Fault.ReportFault (R.faults report.old) (R.faults report.new) result }
+
+    // what stays
+    ensures source_bytes { S.bytes src.new ≡ S.bytes src.old }
+    ensures out_kept { IsBefore result → out.new ≡ out.old }
+    ensures script_kept { IsBeforeScript result → script.new ≡ script.old }
+    ensures report_kept { IsBeforeReport result → report.new ≡ report.old }
+    ensures report_name { R.created report.new ≡ R.created report.old }
+{
+    let gathered = gather(alloc, opts, input, src)?;
+    let prepared = prepare(alloc, &gathered.db, gathered.page_size, opts.load_limit)?;
+    let output = String::from_str(alloc, output)?;
+    let script_name = String::from_str(alloc, script_name)?;
+    write_all(&gathered, prepared, output, script_name, out, script, report)
+}
+
+// Writes the three files, one after another.
+fn write_all<O: Sink, T: Sink, R: Sink>(
+    gathered: &Gathered,
+    prepared: Prepared,
+    output: String,
+    script_name: String,
+    out: &mut O,
+    script: &mut T,
+    report: &mut R,
+) -> Result<Summary, Fault>
+    requires size { prepared.page_size ≡ gathered.now.page_size }
+    requires prepared { IsPrepared prepared.page_size gathered.now.db prepared }
+{
+    let mut prepared = prepared;
+    let db = &gathered.db;
+    let Ok(pages_out) = write_database(&mut prepared, db, output, out) else {
+        return Err(Fault::OutputFault);
+    };
+    let Ok(()) = write_script(&gathered.script, script_name, script) else {
+        return Err(Fault::ScriptFault);
+    };
+    let Ok(()) = write_report(&gathered.lines, pages_out, report) else {
+        return Err(Fault::ReportFault);
+    };
+    Ok(Summary {
+        pages_in: gathered.uses.pages(),
+        pages_out,
+        rows: rows_in(&db.tables),
+    })
+}
+
+// The number of rows of tables.
+fn rows_in(tables: &[OutTable]) -> u64
+    ensures { result ≡ min (sum_by (λ (t : OutTable). length t.rows.items) tables.now) (2 ^ 64 - 1) }
+{
+    let mut rows: u64 = 0;
+    for table in tables {
+        rows = rows.saturating_add(table.rows.len() as u64);
+    }
+    rows
+}

@@ -1,7 +1,7 @@
 //! Whole recoveries over objects in memory. The file is that of the listings' tests, and what is written of it
 //! is told by the format.
 use crate::run;
-use crate::tests::{no_failure, one_failure, two_rows, words_of};
+use crate::tests::{no_failure, one_failure, place, two_rows, words_of};
 use page_access::{MemFail, MemSink, MemSource};
 use std::alloc::Global;
 use std::test::Fail;
@@ -64,7 +64,8 @@ fn two_rows_are_recovered(rt: HostRuntime) -> Result<(), Fail> {
     )?;
     assert_eq!(rt; left.status, 0);
     assert_eq!(rt; left.output.len(), 1024);
-    assert!(rt; left.output.as_slice()[100..] == two_rows(alloc)?.as_slice()[100..]);
+    let behind_the_header = two_rows(alloc)?.into_iter().skip(100);
+    assert!(rt; left.output.iter().skip(100).copied().eq(behind_the_header));
     assert_eq!(rt; left.script.len(), 0);
     assert_eq!(rt;
         left.report.as_slice(),
@@ -140,7 +141,7 @@ fn a_report_that_fails_comes_behind_the_output(rt: HostRuntime) -> Result<(), Fa
 fn a_file_in_utf16_is_not_recovered(rt: HostRuntime) -> Result<(), Fail> {
     let alloc = rt.alloc();
     let mut bytes = two_rows(alloc)?;
-    bytes.as_mut_slice()[59] = 2;
+    place(bytes.as_mut_slice(), 59, b"\x02");
     let left = recovered(
         alloc,
         bytes,

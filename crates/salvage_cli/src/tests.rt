@@ -76,7 +76,7 @@ fn ran_on(alloc: Global, words: &[&str], bytes: Vec<u8>) -> Result<Ran, Fail> {
 }
 
 // Writes a piece at a place, as far as there is room.
-fn place(bytes: &mut [u8], at: u16, piece: &[u8]) {
+pub(crate) fn place(bytes: &mut [u8], at: u16, piece: &[u8]) {
     for (byte, new) in bytes.iter_mut().skip(at as usize).zip(piece) {
         *byte = *new;
     }

@@ -1,6 +1,6 @@
 //! Reading the words.
 ghost use Rattle.std.specs.Prelude.{◌≡◌, ◌≢◌, ◌↔◌, None, Some, IfOk, IsErrOf, map, option_map, string_bytes};
-ghost use Rattle.clap.specs.Words.{app_of, found_of, rows_of, kind_of, with_rule};
+ghost use Rattle.clap.specs.Words.{app_of, found_of, rows_of, kind_of};
 ghost use Rattle.command_line.specs.Command.{app, asked_in, command_of, recovery_view, values_of, view, words_app};
 ghost use Rattle.command_line.specs.Parts.{asked_of, is_given, list_of, listing_of, recovery_of};
 

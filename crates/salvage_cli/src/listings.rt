@@ -1,5 +1,5 @@
 //! A command, done: its input is listed in the report.
-ghost use Rattle.std.specs.Prelude.{◌≡◌, Some, true, IfErr, IfSome, IsErrOf, OnErr, OnOk};
+ghost use Rattle.std.specs.Prelude.{◌≡◌, Some, true, IfErr, IfSome, OnErr, OnOk};
 ghost use Rattle.page_access.specs.Files.{file_of};
 ghost use Rattle.page_access.specs.Outside.{HasCauseOf, KeepsSink, KeepsSource, WritesOf};
 ghost use Rattle.command_line.specs.Command.{file_view};

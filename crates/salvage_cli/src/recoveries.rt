@@ -1,5 +1,5 @@
 //! A recovery, done: a new database, a new script and a report are made of the input.
-ghost use Rattle.std.specs.Prelude.{◌≡◌, Some, true, IsErrOf, OnErr, OnOk};
+ghost use Rattle.std.specs.Prelude.{◌≡◌, Some, true, IsErrOf, OnOk};
 ghost use Rattle.page_access.specs.Outside.{HasCauseOf};
 ghost use Rattle.command_line.specs.Command.{recovery_view};
 ghost use Rattle.salvage_core.specs.Outcome.{turn_of};

@@ -1,5 +1,5 @@
 //! The top call.
-ghost use Rattle.std.specs.Prelude.{◌≡◌, ◌⊎◌, ◌<◌, ◌^◌, length, None, Some, true, map, string_bytes, IfSome, OnErr, OnOk, IsErrOf, IsOk};
+ghost use Rattle.std.specs.Prelude.{◌≡◌, ◌⊎◌, ◌<◌, ◌^◌, length, None, true, map, string_bytes, IfSome, OnErr, OnOk, IsErrOf, IsOk};
 ghost use Rattle.page_access.specs.Outside.{GainsPrefix, HasCauseOf, KeepsSink, Rose};
 ghost use Rattle.command_line.specs.Command.{command_of};
 ghost use Rattle.salvage_core.specs.Outcome.{turn_of};

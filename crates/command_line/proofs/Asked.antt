@@ -1,5 +1,5 @@
 -- What the matches of the command line ask for, and where clap refuses words.
-use Rattle.std.proofs.Common.{◌≡◌, ◌⊎◌, ◌∙◌, true, false, Bool, List, [], ◌∷◌, Option, Some, None, Result, Ok, Err, ap, arith, refl, sym, inl, inr, if◌then◌else◌}
+use Rattle.std.proofs.Common.{◌≡◌, ◌⊎◌, ◌∙◌, true, false, Bool, List, [], ◌∷◌, Option, Some, None, ap, arith, refl, sym, inl, inr, if◌then◌else◌}
 use Rattle.std.specs.Prelude.{ℕ, option_map, option_and_then, map, find, slice_get}
 use Rattle.std.specs.Str.{bytes_eq}
 use Rattle.std.specs.Borrow.{Bor}
@@ -7,7 +7,7 @@ use Rattle.clap.specs.Facts.{Entry}
 use Rattle.clap.specs.Walk.{Text, row_of, rows_of, first_of, all_of}
 use Rattle.clap.specs.Matches.{first_value, matched_of, raw_values}
 use Rattle.clap.specs.declared.parser.matches.Found.{Found}
-use Rattle.clap.specs.Words.{App, Row, FailsBy, HasKind, IsAmong, Kinds, fault_of, is_simple, is_simple_and_free, matches_of}
+use Rattle.clap.specs.Words.{App, Row, IsAmong, Kinds, fault_of, is_simple, is_simple_and_free, matches_of}
 use Rattle.std.proofs.lemmas.Bool.Decides.{nat_tests}
 use Rattle.clap.specs.Walk.{is_empty}
 use Rattle.clap.specs.declared.error.kind.ErrorKind.{ErrorKind}
@@ -16,7 +16,6 @@ use Rattle.command_line.specs.Parts.{Word, Asked}
 use Rattle.std.specs.Prelude.{IfOk, IsErrOf, ◌≢◌}
 use Rattle.std.specs.Option.{ok_or}
 use Rattle.command_line.specs.declared.request.Request.{Request}
-use Rattle.command_line.specs.declared.words.WordsFault.{WordsFault}
 use Rattle.command_line.specs.declared.words.WordsFault.TheVariants.{Usage}
 use Rattle.clap.specs.declared.error.kind.ErrorKind.TheVariants.{OutOfMemory}
 use Rattle.command_line.specs.Command.{app, asked_in, command_of, view}

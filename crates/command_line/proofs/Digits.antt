@@ -1,6 +1,6 @@
 -- A text of digits, as `parse` reads it and as the command line does.
-use Rattle.std.proofs.Common.{◌≡◌, ◌<◌, ◌^◌, ◌∙◌, ℕ, ◌==◌, true, false, List, length, Option, Some, None, Result, Ok, Err, rules, arith, ap, refl, sym}
-use Rattle.std.specs.Prelude.{nat_lt, nat_eq}
+use Rattle.std.proofs.Common.{◌≡◌, ◌<◌, ◌^◌, ℕ, ◌==◌, true, false, List, length, Some, Result, Ok, Err, rules, arith, ap, refl}
+use Rattle.std.specs.Prelude.{nat_lt}
 use Rattle.std.specs.List.{list_all}
 use Rattle.std.specs.Char.{is_ascii_digit}
 use Rattle.std.specs.Result.{OkIff, result_ok}

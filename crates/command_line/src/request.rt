@@ -1,25 +1,56 @@
 //! What a command asks for.
+ghost use Rattle.std.specs.Prelude.{◌≤◌, ◌+◌, IfSome, IsTrue};
+ghost use Rattle.std.proofs.Props.{props};
+ghost use Rattle.page_access.specs.Pages.{is_page_size};
+ghost use Rattle.command_line.specs.Names.{is_lost_name};
 
-/// What the program does.
+/// What is listed.
 #[derive(Clone, Copy, Debug, PartialEq, Eq)]
-pub enum Mode {
-    /// Lists every value.
+pub enum Listing {
+    /// Every value.
     Dbdata,
-    /// Lists every page number that a page names.
+    /// Every page number that a page names.
     Dbptr,
-    /// Lists the rows of the schema.
+    /// The rows of the schema.
     Schema,
 }
 
-/// A command: a mode, its input and its options.
+/// An input file, and how it is cut into pages.
 #[derive(Clone, Copy, Debug)]
-pub struct Request<'a> {
-    /// What the program does.
-    pub mode: Mode,
-    /// The name of the input file.
-    pub input: &'a str,
+pub struct InputFile<'a> {
+    /// Its name.
+    pub name: &'a str,
     /// Bytes of a page, a power of two from 512 to 65536, where `--page-size` gives it.
     pub page_size: Option<u32>,
-    /// Reserved bytes at the end of each page, where `--reserved` gives it.
+    /// Reserved bytes at the end of each page, where `--reserved` gives it. Where both are given, 480 bytes
+    /// are left.
     pub reserved: Option<u8>,
+    ghost size_is: { IfSome page_size (λ s. IsTrue (is_page_size s)) } by { Prim.hlevel props },
+    ghost enough: { IfSome page_size (λ s. IfSome reserved (λ r. r + 480 ≤ s)) } by { Prim.hlevel props },
+}
+
+/// A recovery: the database in an input goes to new files.
+#[derive(Clone, Copy, Debug)]
+pub struct Recovery<'a> {
+    /// The file that is recovered.
+    pub input: InputFile<'a>,
+    /// The name of the new database.
+    pub output: &'a str,
+    /// The name of the new script.
+    pub script: &'a str,
+    /// Free pages are recovered like any other page.
+    pub freelist_corrupt: bool,
+    /// The name of the table of lost rows, where `--lost` gives it: not empty, and not beginning with
+    /// `sqlite_` in any case of its letters.
+    pub lost: Option<&'a str>,
+    ghost lost_is: { IfSome lost (λ name. IsTrue (is_lost_name name.now)) } by { Prim.hlevel props },
+}
+
+/// A command.
+#[derive(Clone, Copy, Debug)]
+pub enum Request<'a> {
+    /// An input is listed.
+    List(Listing, InputFile<'a>),
+    /// An input is recovered.
+    Recover(Recovery<'a>),
 }

@@ -1,15 +1,13 @@
 //! Reading the words.
-ghost use Rattle.std.specs.Prelude.{◌≡◌, ◌≢◌, ◌≤◌, ◌+◌, ◌↔◌, None, Some, IfOk, IfSome, IsErrOf, IsTrue, map, option_map, string_bytes};
-ghost use Rattle.page_access.specs.Pages.{is_page_size};
+ghost use Rattle.std.specs.Prelude.{◌≡◌, ◌≢◌, ◌↔◌, None, Some, IfOk, IsErrOf, map, option_map, string_bytes};
 ghost use Rattle.clap.specs.Words.{app_of, found_of, rows_of, kind_of};
-ghost use Rattle.command_line.specs.Command.{app, asked_in, command_of, view};
-ghost use Rattle.command_line.specs.Parts.{HasOptions, asked_of, leaves_enough, mode_of, read_option};
-ghost use Rattle.command_line.specs.Numbers.{page_size_of, reserved_of};
+ghost use Rattle.command_line.specs.Command.{app, asked_in, command_of, recovery_view, values_of, view, words_app};
+ghost use Rattle.command_line.specs.Parts.{asked_of, is_given, list_of, listing_of, recovery_of};
 
-use crate::numbers::{page_size_in, reserved_in};
-use crate::request::{Mode, Request};
+use crate::options::{OptionWords, file_of, has_lost_name, is_for_pages};
+use crate::request::{Listing, Recovery, Request};
 use clap::error::ErrorKind;
-use clap::{Arg, ArgMatches, Command, Error};
+use clap::{Arg, ArgAction, ArgMatches, Command, Error};
 use std::alloc::{AllocError, Global};
 
 /// Why words are not read.
@@ -25,7 +23,6 @@ pub enum WordsFault {
 pub fn read_words<'a>(alloc: Global, words: &'a [String]) -> Result<Request<'a>, WordsFault>
     ensures found { IfOk result (λ r. command_of (map string_bytes words.entry.now) ≡ Some
         (view r)) }
-    ensures options { IfOk result (λ r. HasOptions r.page_size r.reserved) }
     ensures usage { IsErrOf result WordsFault.Usage → command_of
         (map string_bytes words.entry.now) ≡ None }
 {
@@ -54,188 +51,128 @@ fn fault_of(fault: &Error) -> WordsFault
 fn command_line<'a>(alloc: Global) -> Result<Command<'a>, AllocError>
     ensures { IfOk result (λ c. app_of c ≡ app) }
 {
-    let mode = Arg::new(alloc, "MODE").required(true);
-    let word = Arg::new(alloc, "WORD").num_args(0..);
     let page_size = Arg::new(alloc, "page-size").long("page-size");
     let reserved = Arg::new(alloc, "reserved").long("reserved");
+    let freelist = Arg::new(alloc, "freelist-corrupt")
+        .long("freelist-corrupt")
+        .action(ArgAction::SetTrue);
+    let lost = Arg::new(alloc, "lost").long("lost");
+    words_line(alloc)?
+        .arg(page_size)?
+        .arg(reserved)?
+        .arg(freelist)?
+        .arg(lost)
+}
+
+// The words of the command line, for clap: a mode, and any number of further words.
+fn words_line<'a>(alloc: Global) -> Result<Command<'a>, AllocError>
+    ensures { IfOk result (λ c. app_of c ≡ words_app) }
+{
+    let mode = Arg::new(alloc, "MODE").required(true);
+    let word = Arg::new(alloc, "WORD").num_args(0..);
     Command::new(alloc, "db_salvage")
         .no_binary_name(true)
         .disable_help_flag(true)
         .disable_version_flag(true)
         .arg(mode)?
-        .arg(word)?
-        .arg(page_size)?
-        .arg(reserved)
+        .arg(word)
 }
 
 // What the matches ask for.
 #[tactic(auto, unfolding(crate::specs::Command::asked_in))]
 fn asked_in<'a>(matches: &ArgMatches<'a>) -> Option<Request<'a>>
-    ensures options { IfSome result (λ r. HasOptions r.page_size r.reserved) }
-    ensures value { option_map view result ≡ asked_in (rows_of (found_of matches.now)) }
+    ensures { option_map view result ≡ asked_in (rows_of (found_of matches.now)) }
 {
-    let words = matches.get_strs("WORD");
     let page_size = matches.get_str("page-size");
     let reserved = matches.get_str("reserved");
-    asked_of(matches.get_str("MODE"), words, page_size, reserved)
+    let flag = matches.get_str("freelist-corrupt");
+    let lost = matches.get_str("lost");
+    let mode = matches.get_str("MODE");
+    let words = matches.get_strs("WORD");
+    let options = OptionWords {
+        page_size,
+        reserved,
+        freelist_corrupt: is_given(flag),
+        lost,
+    };
+    asked_of(mode, words, &options)
 }
 
-// What a mode, further words and the options' values ask for.
+// Whether a flag is given.
+fn is_given(value: Option<&str>) -> bool
+    ensures { result ≡ is_given (option_map (λ w. w.now) value.entry) }
+{
+    match value {
+        Some(word) => word == "true",
+        None => false,
+    }
+}
+
+// What a mode, further words and the options ask for.
 #[tactic(auto, unfolding(crate::specs::Parts::asked_of))]
 fn asked_of<'a>(
     mode: Option<&str>,
     words: Option<&[&'a str]>,
-    page_size: Option<&str>,
-    reserved: Option<&str>,
+    options: &OptionWords<'a>,
 ) -> Option<Request<'a>>
-    ensures options { IfSome result (λ r. HasOptions r.page_size r.reserved) }
-    ensures value { option_map view result ≡ asked_of (option_map (λ w. w.now) mode.entry)
-        (option_map (λ s. map (λ w. w.now) s.now) words.entry)
-        (option_map (λ w. w.now) page_size.entry) (option_map (λ w. w.now) reserved.entry) }
+    ensures { option_map view result ≡ asked_of (option_map (λ w. w.now) mode.entry)
+        (option_map (λ s. map (λ w. w.now) s.now) words.entry) (values_of options.now) }
 {
-    let mode = mode_in(mode?)?;
+    let mode = mode?;
+    if mode == "recover" {
+        return Some(Request::Recover(recovery_of(words, options)?));
+    }
+    list_of(listing_in(mode)?, words, options)
+}
+
+// A listing of one input.
+#[tactic(auto, unfolding(crate::specs::Parts::list_of))]
+fn list_of<'a>(
+    listing: Listing,
+    words: Option<&[&'a str]>,
+    options: &OptionWords<'a>,
+) -> Option<Request<'a>>
+    ensures { option_map view result ≡ list_of listing
+        (option_map (λ s. map (λ w. w.now) s.now) words.entry) (values_of options.now) }
+{
+    if !is_for_pages(options) {
+        return None;
+    }
     let Some([input]) = words else {
         return None;
     };
-    let page_size = page_size_option(page_size)?;
-    let reserved = reserved_option(reserved)?;
-    if !leaves_enough(page_size, reserved) {
+    Some(Request::List(listing, file_of(input, options)?))
+}
+
+// A recovery of an input to two new files.
+#[tactic(auto, unfolding(crate::specs::Parts::recovery_of))]
+fn recovery_of<'a>(words: Option<&[&'a str]>, options: &OptionWords<'a>) -> Option<Recovery<'a>>
+    ensures { option_map recovery_view result ≡ recovery_of
+        (option_map (λ s. map (λ w. w.now) s.now) words.entry) (values_of options.now) }
+{
+    if !has_lost_name(options.lost) {
         return None;
     }
-    Some(Request {
-        mode,
-        input,
-        page_size,
-        reserved,
+    let Some([input, output, script]) = words else {
+        return None;
+    };
+    Some(Recovery {
+        input: file_of(input, options)?,
+        output,
+        script,
+        freelist_corrupt: options.freelist_corrupt,
+        lost: options.lost,
     })
 }
 
-// The value of `--page-size`, where the option is given.
-fn page_size_option(text: Option<&str>) -> Option<Option<u32>>
-    ensures value { result ≡ read_option page_size_of (option_map (λ w. w.now) text.entry) }
-    ensures valid { IfSome result (λ o. IfSome o (λ s. IsTrue (is_page_size s))) }
-{
-    match text {
-        Some(text) => Some(Some(page_size_in(text)?)),
-        None => Some(None),
-    }
-}
-
-// The value of `--reserved`, where the option is given.
-fn reserved_option(text: Option<&str>) -> Option<Option<u8>>
-    ensures { result ≡ read_option reserved_of (option_map (λ w. w.now) text.entry) }
-{
-    match text {
-        Some(text) => Some(Some(reserved_in(text)?)),
-        None => Some(None),
-    }
-}
-
-// Where both are given, at least 480 bytes are left.
-fn leaves_enough(page_size: Option<u32>, reserved: Option<u8>) -> bool
-    ensures value { result ≡ leaves_enough page_size reserved }
-    ensures enough { IsTrue result → IfSome page_size (λ s. IfSome reserved (λ r. r + 480 ≤ s)) }
-{
-    match (page_size, reserved) {
-        (Some(size), Some(reserved)) => size >= 480 + u32::from(reserved),
-        _ => true,
-    }
-}
-
-#[tactic(auto, unfolding(crate::specs::Parts::mode_of))]
-fn mode_in(word: &str) -> Option<Mode>
-    ensures { result ≡ mode_of word.now }
+#[tactic(auto, unfolding(crate::specs::Parts::listing_of))]
+fn listing_in(word: &str) -> Option<Listing>
+    ensures { result ≡ listing_of word.now }
 {
     match word {
-        "dbdata" => Some(Mode::Dbdata),
-        "dbptr" => Some(Mode::Dbptr),
-        "schema" => Some(Mode::Schema),
+        "dbdata" => Some(Listing::Dbdata),
+        "dbptr" => Some(Listing::Dbptr),
+        "schema" => Some(Listing::Schema),
         _ => None,
-    }
-}
-
-#[cfg(test)]
-mod tests {
-    use super::*;
-    use std::test::Fail;
-
-    fn asked(alloc: Global, words: &[&str]) -> Result<Option<(u32, u8)>, Fail> {
-        let mut owned = Vec::new(alloc);
-        for word in words {
-            owned.push(String::from_str(alloc, word)?)?;
-        }
-        Ok(match read_words(alloc, &owned) {
-            Ok(request) => Some((
-                request.page_size.unwrap_or(0),
-                request.reserved.unwrap_or(0),
-            )),
-            Err(_) => None,
-        })
-    }
-
-    #[test]
-    fn words_are_a_command_or_not(rt: HostRuntime) -> Result<(), Fail> {
-        let alloc = rt.alloc();
-        assert_eq!(rt; asked(alloc, &["dbdata", "a"])?, Some((0, 0)));
-        assert_eq!(rt;
-            asked(alloc, &["dbdata", "a", "--page-size", "1024"])?,
-            Some((1024, 0))
-        );
-        assert_eq!(rt;
-            asked(
-                alloc,
-                &["--page-size=1024", "dbdata", "--reserved", "3", "a"]
-            )?,
-            Some((1024, 3))
-        );
-        assert_eq!(rt; asked(alloc, &["dbdata", "--", "-a"])?, Some((0, 0)));
-        assert_eq!(rt; asked(alloc, &["dbdata", "-"])?, Some((0, 0)));
-        assert_eq!(rt; asked(alloc, &["dbdata", ""])?, Some((0, 0)));
-        assert_eq!(rt; asked(alloc, &["schema", "a"])?, Some((0, 0)));
-        assert_eq!(rt; asked(alloc, &["trial", "3"])?, None);
-        assert_eq!(rt; asked(alloc, &[])?, None);
-        assert_eq!(rt; asked(alloc, &["dbdata"])?, None);
-        assert_eq!(rt; asked(alloc, &["dbdata", "a", "b"])?, None);
-        assert_eq!(rt; asked(alloc, &["dbdata", "a", "--lost", "x"])?, None);
-        assert_eq!(rt;
-            asked(alloc, &["dbdata", "a", "--page-size", "1000"])?,
-            None
-        );
-        assert_eq!(rt;
-            asked(alloc, &["dbdata", "a", "--page-size", "0512"])?,
-            None
-        );
-        assert_eq!(rt;
-            asked(alloc, &["dbdata", "a", "--page-size", "+512"])?,
-            None
-        );
-        assert_eq!(rt; asked(alloc, &["dbdata", "a", "--reserved", "256"])?, None);
-        assert_eq!(rt; asked(alloc, &["dbdata", "a", "--reserved", "00"])?, None);
-        assert_eq!(rt;
-            asked(
-                alloc,
-                &["dbdata", "a", "--page-size", "512", "--reserved", "33"]
-            )?,
-            None
-        );
-        assert_eq!(rt;
-            asked(
-                alloc,
-                &["dbdata", "a", "--page-size", "512", "--reserved", "32"]
-            )?,
-            Some((512, 32))
-        );
-        assert_eq!(rt;
-            asked(
-                alloc,
-                &["dbdata", "a", "--reserved", "1", "--reserved", "1"]
-            )?,
-            None
-        );
-        assert_eq!(rt; asked(alloc, &["--help"])?, None);
-        assert_eq!(rt; asked(alloc, &["dbdata", "-V"])?, None);
-        assert_eq!(rt; asked(alloc, &["-h"])?, None);
-        assert_eq!(rt; asked(alloc, &["help"])?, None);
-        Ok(())
     }
 }

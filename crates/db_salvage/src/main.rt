@@ -2,7 +2,7 @@
 #![tactic(auto)]
 
 use page_access::Sink;
-use salvage_cli::{FileSource, NoSink, StreamSink, run};
+use salvage_cli::{FileSink, FileSource, StreamSink, run};
 use std::env;
 use std::io::{self, BufWriter, ErrorKind};
 use std::process::ExitCode;
@@ -23,19 +23,21 @@ fn main(rt: HostRuntime) -> ExitCode {
     }
 }
 
-// Runs the program over the file and the streams of this process.
+// Runs the program over the files and the streams of this process.
 fn start(rt: &HostRuntime) -> io::Result<u8> {
     let alloc = rt.alloc();
     let words = words(rt)?;
     let mut report = StreamSink::new(BufWriter::with_capacity(alloc, BUFFER, rt.stdout())?);
     let mut errors = StreamSink::new(rt.stderr());
     let mut src = FileSource::new(rt);
+    let mut out = FileSink::new(rt);
+    let mut script = FileSink::new(rt);
     Ok(run(
         alloc,
         &words,
         &mut src,
-        &mut NoSink,
-        &mut NoSink,
+        &mut out,
+        &mut script,
         &mut report,
         &mut errors,
     ))

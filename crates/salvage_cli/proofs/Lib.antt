@@ -1,4 +1,5 @@
 pub mod Causes
+pub mod Ended
 pub mod Lists
 pub mod Outcomes
 pub mod SchemaLines

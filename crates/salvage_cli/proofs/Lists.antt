@@ -3,7 +3,8 @@ use Rattle.std.proofs.Common.{◌≡◌, ◌∙◌, ◌^◌, ℕ, List, length, 
 use Rattle.std.specs.Prelude.{IfErr, IfSome, option_map}
 use Rattle.std.proofs.Math.Seq.{take-length}
 use Rattle.page_access.specs.Outside.{Gains, WritesOf}
-use Rattle.command_line.specs.Parts.{Asked}
+use Rattle.command_line.specs.Parts.{FileAsked}
+use Rattle.command_line.specs.declared.request.Listing.{Listing}
 use Rattle.page_size.specs.Rule.{Finding, finding}
 use Rattle.input_pages.specs.Input.{FindsPages, pages_of}
 use Rattle.input_pages.specs.declared.faults.InputFault.{InputFault}
@@ -31,13 +32,13 @@ finished (Some all) told' old mid new f g text x r same w e is =
     (finished_text old new (text all) r (subst (λ (n : Option (List ℕ)). Gains old n (text all)) (sym e) w.ok) is)
 
 -- the pages of an input were found, and are listed
-pub found_listed : {A : Type 0} (told told' old new : Option (List ℕ)) (asked : Asked) (pages : Option Input) (input : Input) (r : Result A Fault)
-    → told' ≡ told → pages ≡ Some input
-    → IfSome told (λ all. FindsPages (Ok pages) (pages_of (2 ^ 28) asked.page_size asked.reserved all))
-    → IfSome told' (λ all. GivesWanted (text_by asked.mode all (Some (finding input.found))) old new r)
-    → IfSome told (λ all. GivesWanted (wanted asked all) old new r)
-found_listed None told' old new asked pages input r same is pages_are listed = tt
-found_listed (Some all) told' old new asked pages input r same is pages_are listed =
-    let there = subst (λ (o : Option (List ℕ)). IfSome o (λ b. GivesWanted (text_by asked.mode b (Some (finding input.found))) old new r)) same listed in
+pub found_listed : {A : Type 0} (told told' old new : Option (List ℕ)) (listing : Listing) (file : FileAsked) (pages : Option Input) (input : Input)
+    (r : Result A Fault) → told' ≡ told → pages ≡ Some input
+    → IfSome told (λ all. FindsPages (Ok pages) (pages_of (2 ^ 28) file.page_size file.reserved all))
+    → IfSome told' (λ all. GivesWanted (text_by listing all (Some (finding input.found))) old new r)
+    → IfSome told (λ all. GivesWanted (wanted listing file all) old new r)
+found_listed None told' old new listing file pages input r same is pages_are listed = tt
+found_listed (Some all) told' old new listing file pages input r same is pages_are listed =
+    let there = subst (λ (o : Option (List ℕ)). IfSome o (λ b. GivesWanted (text_by listing b (Some (finding input.found))) old new r)) same listed in
     let so = pages_are ∙ ap (λ (p : Option Input). Ok (option_map (λ (i : Input). finding i.found) p)) is in
-    subst (λ (p : Result (Option Finding) InputFault). GivesWanted (wanted_by asked.mode all p) old new r) (sym so) there
+    subst (λ (p : Result (Option Finding) InputFault). GivesWanted (wanted_by listing all p) old new r) (sym so) there

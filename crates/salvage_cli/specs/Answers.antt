@@ -7,8 +7,10 @@ use Rattle.dbdata_list.specs.declared.faults.ListFault.{ListFault}
 use Rattle.dbdata_list.specs.declared.faults.ListFault.TheVariants as list
 use Rattle.input_pages.specs.declared.faults.InputFault.{InputFault as InputFaults}
 use Rattle.input_pages.specs.declared.faults.InputFault.TheVariants as inputs
+use Rattle.salvage_core.specs.declared.faults.Fault.{Fault as CoreFault}
+use Rattle.salvage_core.specs.declared.faults.Fault.TheVariants as core
 use Rattle.salvage_cli.specs.declared.faults.Fault.{Fault}
-use Rattle.salvage_cli.specs.declared.faults.Fault.TheVariants.{Usage, InputFault, TooLarge, NoPageSize, NoWholePage, Utf16, ReportFault, Memory}
+use Rattle.salvage_cli.specs.declared.faults.Fault.TheVariants.{Usage, InputFault, TooLarge, NoPageSize, NoWholePage, Utf16, OutputTooLarge, OutputFault, ScriptFault, ReportFault, Memory}
 
 -- the refusal where the words are not read
 abbrev pub of_words : WordsFault → Fault
@@ -22,6 +24,19 @@ of_input (inputs.TooLarge len) = TooLarge len
 of_input inputs.NoPageSize = NoPageSize
 of_input (inputs.NoWholePage len size) = NoWholePage len size
 of_input inputs.Memory = Memory
+
+-- the refusal where a recovery is not done
+abbrev pub of_core : CoreFault → Fault
+of_core core.InputFault = InputFault
+of_core (core.TooLarge len) = TooLarge len
+of_core core.NoPageSize = NoPageSize
+of_core (core.NoWholePage len size) = NoWholePage len size
+of_core (core.Utf16 encoding) = Utf16
+of_core (core.OutputTooLarge load) = OutputTooLarge load
+of_core core.OutputFault = OutputFault
+of_core core.ScriptFault = ScriptFault
+of_core core.ReportFault = ReportFault
+of_core core.Memory = Memory
 
 -- the refusal where a listing ends early
 abbrev pub of_list : ListFault → Fault
@@ -37,6 +52,9 @@ fault_status (TooLarge len) = 5
 fault_status NoPageSize = 4
 fault_status (NoWholePage len size) = 4
 fault_status Utf16 = 12
+fault_status (OutputTooLarge load) = 6
+fault_status OutputFault = 7
+fault_status ScriptFault = 8
 fault_status ReportFault = 9
 fault_status Memory = 11
 
@@ -53,6 +71,9 @@ fault_text (TooLarge len) = codes "input too large: " ++ (decimal len ++ codes "
 fault_text NoPageSize = codes "no page size found"
 fault_text (NoWholePage len size) = codes "no whole page: " ++ (decimal len ++ (codes " bytes, page size " ++ decimal size))
 fault_text Utf16 = codes "UTF-16 database"
+fault_text (OutputTooLarge load) = codes "output too large: load " ++ decimal load
+fault_text OutputFault = codes "output fault"
+fault_text ScriptFault = codes "script fault"
 fault_text ReportFault = codes "report fault"
 fault_text Memory = codes "out of memory"
 

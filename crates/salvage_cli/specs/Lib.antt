@@ -1,5 +1,6 @@
 pub mod Answers
 pub mod Outcome
+pub mod Recovery
 pub mod Run
 pub mod Schema
 pub mod Wanted

@@ -2,7 +2,7 @@
 use Rattle.std.specs.Prelude.{◌≡◌, ◌<◌, ◌^◌, ℕ, List, [], Option, Result, Ok, Err, ⊤}
 use Rattle.page_access.specs.Outside.{Gains, GainsPrefix}
 use Rattle.salvage_cli.specs.declared.faults.Fault.{Fault}
-use Rattle.salvage_cli.specs.declared.faults.Fault.TheVariants.{Usage, InputFault, TooLarge, NoPageSize, NoWholePage, Utf16, ReportFault, Memory}
+use Rattle.salvage_cli.specs.declared.faults.Fault.TheVariants.{Usage, InputFault, TooLarge, NoPageSize, NoWholePage, Utf16, OutputTooLarge, OutputFault, ScriptFault, ReportFault, Memory}
 
 -- the text of a listing, nothing where there is none
 abbrev pub text_of : Result (List ℕ) Fault → List ℕ
@@ -17,6 +17,9 @@ EndsListing (Err fault) old new = ⊥
 -- what an error says of what was wanted, and what it leaves in the report
 abbrev pub EndsWanted : Result (List ℕ) Fault → Option (List ℕ) → Option (List ℕ) → Fault → Type 0
 EndsWanted wanted old new Usage = ⊥
+EndsWanted wanted old new (OutputTooLarge load) = ⊥
+EndsWanted wanted old new OutputFault = ⊥
+EndsWanted wanted old new ScriptFault = ⊥
 EndsWanted wanted old new InputFault = GainsPrefix old new (text_of wanted)
 EndsWanted wanted old new ReportFault = EndsListing wanted old new
 EndsWanted wanted old new Memory = GainsPrefix old new (text_of wanted)
@@ -38,6 +41,14 @@ IsEarly (Err (NoWholePage len size)) = ⊤
 IsEarly (Err Utf16) = ⊤
 IsEarly (Err fault) = ⊥
 
+-- an answer that a listing may have
+abbrev pub IsOfListing : {A : Type 0} → Result A Fault → Type 0
+IsOfListing (Err Usage) = ⊥
+IsOfListing (Err (OutputTooLarge load)) = ⊥
+IsOfListing (Err OutputFault) = ⊥
+IsOfListing (Err ScriptFault) = ⊥
+IsOfListing answer = ⊤
+
 -- no refusal that comes before anything is listed
 abbrev pub IsLate : {A : Type 0} → Result A Fault → Type 0
 IsLate (Ok done) = ⊤
@@ -50,4 +61,5 @@ IsLate (Err fault) = ⊥
 abbrev pub HasNumbers : {A : Type 0} → Result A Fault → Type 0
 HasNumbers (Err (TooLarge len)) = 2 ^ 28 < len
 HasNumbers (Err (NoWholePage len size)) = (0 < len) × (len < size)
+HasNumbers (Err (OutputTooLarge load)) = 2 ^ 32 < load
 HasNumbers answer = ⊤

@@ -1,10 +1,10 @@
 //! The real objects of the outside: a file, and the standard streams. They tell no bytes, and count
 //! each error of the system as a fault.
-ghost use Rattle.std.specs.Prelude.{◌≡◌, IsErr, None, false, ◌-◌, ◌^◌, string_bytes};
+ghost use Rattle.std.specs.Prelude.{◌≡◌, None, false, string_bytes};
 ghost use Rattle.std.specs.Option.{option_map};
 
 use page_access::{Failed, Sink, Source};
-use std::fs::{self, OpenFile};
+use std::fs::{self, File, OpenFile};
 use std::io::Write;
 use std::os::unix::fs::FileExt;
 use std::rt::Files;
@@ -183,34 +183,87 @@ impl<W: Write + Drop> Sink for StreamSink<W> {
     }
 }
 
-/// A target that no mode uses yet: each call fails, and the count of its faults stands at its last value.
+/// A new file that is written from its front. `create` makes it, and fails where the name is there already;
+/// `put` and `finish` fail before that. A finished file is on its disk.
 #[derive(Drop)]
-pub struct NoSink;
+pub struct FileSink<'a, R: Files>
+where
+    R::File: Drop,
+{
+    rt: &'a R,
+    file: Option<R::File>,
+    name: Option<String>,
+    finished: bool,
+    faults: u64,
+}
 
-impl Sink for NoSink {
+impl<'a, R: Files> FileSink<'a, R>
+where
+    R::File: Drop,
+{
+    /// No file yet.
+    pub fn new(rt: &'a R) -> Self
+        ensures name { result.name ≡ None }
+        ensures finished { result.finished ≡ false }
+        ensures faults { result.faults ≡ 0 }
+    {
+        FileSink {
+            rt,
+            file: None,
+            name: None,
+            finished: false,
+            faults: 0,
+        }
+    }
+}
+
+impl<R: Files> Sink for FileSink<'_, R>
+where
+    R::File: Write + OpenFile + Drop,
+{
     ghost bytes = { λ _. None };
 
-    ghost created = { λ _. None };
+    ghost created = { λ s. option_map string_bytes s.name };
 
-    ghost finished = { λ _. false };
+    ghost finished = { λ s. s.finished };
 
-    ghost faults = { λ _. 2 ^ 64 - 1 };
+    ghost faults = { λ s. s.faults };
 
-    fn create(&mut self, _name: String) -> Result<(), Failed>
-        ensures { IsErr result }
-    {
+    fn create(&mut self, name: String) -> Result<(), Failed> {
+        self.finished = false;
+        match File::create_new(self.rt, name.as_str()) {
+            Ok(file) => {
+                self.file = Some(file);
+                self.name = Some(name);
+                Ok(())
+            }
+            Err(_) => {
+                self.faults = self.faults.saturating_add(1);
+                Err(Failed)
+            }
+        }
+    }
+
+    fn put(&mut self, piece: &[u8]) -> Result<(), Failed> {
+        self.finished = false;
+        if let Some(file) = &mut self.file {
+            if file.write_all(piece).is_ok() {
+                return Ok(());
+            }
+        }
+        self.faults = self.faults.saturating_add(1);
         Err(Failed)
     }
 
-    fn put(&mut self, _piece: &[u8]) -> Result<(), Failed>
-        ensures { IsErr result }
-    {
-        Err(Failed)
-    }
-
-    fn finish(&mut self) -> Result<(), Failed>
-        ensures { IsErr result }
-    {
+    fn finish(&mut self) -> Result<(), Failed> {
+        self.finished = false;
+        if let Some(file) = &mut self.file {
+            if file.flush().is_ok() && file.sync_all().is_ok() {
+                self.finished = true;
+                return Ok(());
+            }
+        }
+        self.faults = self.faults.saturating_add(1);
         Err(Failed)
     }
 }

@@ -1,6 +1,6 @@
 //! Why the program does not do what was asked.
 ghost use Rattle.std.specs.Prelude.{◌≡◌};
-ghost use Rattle.salvage_cli.specs.Answers.{of_input, of_list, of_words};
+ghost use Rattle.salvage_cli.specs.Answers.{of_core, of_input, of_list, of_words};
 
 use command_line::WordsFault;
 use dbdata_list::ListFault;
@@ -27,8 +27,17 @@ pub enum Fault {
         /// Bytes of a page.
         size: u32,
     },
-    /// The header says that texts are in UTF-16, and the mode does not list such a file.
+    /// The header says that texts are in UTF-16, and the mode does not read such a file.
     Utf16,
+    /// The load of the database that would be written is over 2^32.
+    OutputTooLarge {
+        /// The load.
+        load: u128,
+    },
+    /// A call of the sink of the database failed.
+    OutputFault,
+    /// A call of the sink of the script failed.
+    ScriptFault,
     /// A call of the report failed.
     ReportFault,
     /// There was no memory.
@@ -68,6 +77,25 @@ impl From<ListFault> for Fault {
             ListFault::Source => Fault::InputFault,
             ListFault::Sink => Fault::ReportFault,
             ListFault::Memory => Fault::Memory,
+        }
+    }
+}
+
+impl From<salvage_core::Fault> for Fault {
+    ghost from_gives = { λ fault e. e ≡ of_core fault };
+
+    fn from(fault: salvage_core::Fault) -> Self {
+        match fault {
+            salvage_core::Fault::InputFault => Fault::InputFault,
+            salvage_core::Fault::TooLarge { len } => Fault::TooLarge { len },
+            salvage_core::Fault::NoPageSize => Fault::NoPageSize,
+            salvage_core::Fault::NoWholePage { len, size } => Fault::NoWholePage { len, size },
+            salvage_core::Fault::Utf16 { .. } => Fault::Utf16,
+            salvage_core::Fault::OutputTooLarge { load } => Fault::OutputTooLarge { load },
+            salvage_core::Fault::OutputFault => Fault::OutputFault,
+            salvage_core::Fault::ScriptFault => Fault::ScriptFault,
+            salvage_core::Fault::ReportFault => Fault::ReportFault,
+            salvage_core::Fault::Memory => Fault::Memory,
         }
     }
 }

@@ -5,14 +5,17 @@ mod adapters;
 mod faults;
 mod lines;
 mod listings;
+mod recoveries;
 mod runs;
 mod schemas;
 
-pub use adapters::{FileSource, NoSink, StreamSink};
+pub use adapters::{FileSink, FileSource, StreamSink};
 pub use faults::Fault;
 pub use runs::run;
 
 #[cfg(test)]
 mod order_tests;
+#[cfg(test)]
+mod recovery_tests;
 #[cfg(test)]
 mod tests;

@@ -57,9 +57,22 @@ fn add_text(line: &mut Line, fault: &Fault)
             *size,
         ),
         Fault::Utf16 => add(line, b"UTF-16 database"),
+        Fault::OutputTooLarge { load } => add_load(line, b"output too large: load ", *load),
+        Fault::OutputFault => add(line, b"output fault"),
+        Fault::ScriptFault => add(line, b"script fault"),
         Fault::ReportFault => add(line, b"report fault"),
         Fault::Memory => add(line, b"out of memory"),
     }
+}
+
+// Adds a load behind a word.
+fn add_load(line: &mut Line, before: &[u8], load: u128)
+    requires { array_vec_len line.old + length before.now ≤ 80 }
+    ensures text { line.new.items ≡ line.old.items ++ (before.now ++ decimal load) }
+    ensures len { array_vec_len line.new ≤ array_vec_len line.old + length before.now + 40 }
+{
+    add(line, before);
+    add(line, Buffer::new().format(load).as_bytes());
 }
 
 // Adds a number between two words.

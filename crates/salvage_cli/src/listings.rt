@@ -1,17 +1,16 @@
 //! A command, done: its input is listed in the report.
-ghost use Rattle.std.specs.Prelude.{◌≡◌, Some, true, IfErr, IfSome, IsErrOf, OnErr, OnOk};
+ghost use Rattle.std.specs.Prelude.{◌≡◌, Some, true, IfErr, IfSome, OnErr, OnOk};
 ghost use Rattle.page_access.specs.Files.{file_of};
 ghost use Rattle.page_access.specs.Outside.{HasCauseOf, KeepsSink, KeepsSource, WritesOf};
-ghost use Rattle.command_line.specs.Command.{view};
-ghost use Rattle.command_line.specs.Parts.{HasOptions};
+ghost use Rattle.command_line.specs.Command.{file_view};
 ghost use Rattle.page_size.specs.Rule.{finding};
 ghost use Rattle.salvage_cli.specs.Wanted.{listing_of, refused_by, text_by, wanted};
 ghost use Rattle.salvage_cli.specs.Outcome.{StaysUnfinished};
-ghost use Rattle.salvage_cli.specs.Run.{GivesWanted, HasNumbers, IsEarly, IsLate};
+ghost use Rattle.salvage_cli.specs.Run.{GivesWanted, HasNumbers, IsEarly, IsLate, IsOfListing};
 
 use crate::faults::Fault;
 use crate::schemas::list_schema;
-use command_line::{Mode, Request};
+use command_line::{InputFile, Listing};
 use dbdata_list::{list_data, list_pointers};
 use input_pages::{MAX_INPUT, is_utf16, open_input};
 use page_access::{Geometry, Sink, Source};
@@ -21,18 +20,18 @@ use std::alloc::Global;
 /// Lists the input in the report, and finishes the report.
 pub(crate) fn list<S: Source, R: Sink>(
     alloc: Global,
-    request: &Request<'_>,
+    listing: Listing,
+    input: &InputFile<'_>,
     src: &mut S,
     report: &mut R,
 ) -> Result<(), Fault>
-    requires { HasOptions request.now.page_size request.now.reserved }
     ensures told { IfSome (S.bytes src.old)
-        (λ all. GivesWanted (wanted (view request.now) all) (R.bytes report.old)
+        (λ all. GivesWanted (wanted listing (file_view input.now) all) (R.bytes report.old)
         (R.bytes report.new) result) }
-    ensures name { OnOk result (S.attached src.new ≡ Some request.now.input.now) }
+    ensures name { OnOk result (S.attached src.new ≡ Some input.now.name.now) }
     ensures finished { OnOk result (R.finished report.new ≡ true) }
     ensures early { IsEarly result → report.new ≡ report.old }
-    ensures command { IsErrOf result Fault.Usage → ⊥ }
+    ensures only { IsOfListing result }
     ensures numbers { HasNumbers result }
     ensures source { HasCauseOf Fault.InputFault (S.faults src.old) (S.faults src.new) result }
     ensures sink { HasCauseOf Fault.ReportFault (R.faults report.old) (R.faults report.new) result }
@@ -43,31 +42,31 @@ pub(crate) fn list<S: Source, R: Sink>(
     let pages = open_input(
         alloc,
         src,
-        request.input,
+        input.name,
         MAX_INPUT,
-        request.page_size,
-        request.reserved,
+        input.page_size,
+        input.reserved,
     )?;
     match pages {
-        Some(input) => put_found(alloc, request.mode, &input.found, src, report),
+        Some(pages) => put_found(alloc, listing, &pages.found, src, report),
         None => finish(report),
     }
 }
 
-// Lists the pages that were found, but for those that the mode refuses.
+// Lists the pages that were found, but for those that the listing refuses.
 fn put_found<S: Source, R: Sink>(
     alloc: Global,
-    mode: Mode,
+    listing: Listing,
     found: &Found,
     src: &mut S,
     report: &mut R,
 ) -> Result<(), Fault>
     ensures told { IfSome (S.bytes src.old)
-        (λ all. GivesWanted (text_by mode all (Some (finding found.now))) (R.bytes report.old)
+        (λ all. GivesWanted (text_by listing all (Some (finding found.now))) (R.bytes report.old)
         (R.bytes report.new) result) }
     ensures finished { OnOk result (R.finished report.new ≡ true) }
     ensures early { IsEarly result → report.new ≡ report.old }
-    ensures command { IsErrOf result Fault.Usage → ⊥ }
+    ensures only { IsOfListing result }
     ensures numbers { HasNumbers result }
     ensures source { HasCauseOf Fault.InputFault (S.faults src.old) (S.faults src.new) result }
     ensures sink { HasCauseOf Fault.ReportFault (R.faults report.old) (R.faults report.new) result }
@@ -76,32 +75,32 @@ fn put_found<S: Source, R: Sink>(
         (R.finished report.new)) }
     ensures kept { KeepsSource S.bytes S.attached S.faults S.reads src.old src.new }
 {
-    if is_refused(mode, found) {
+    if is_refused(listing, found) {
         return Err(Fault::Utf16);
     }
-    put_all(alloc, mode, &found.geometry, src, report)
+    put_all(alloc, listing, &found.geometry, src, report)
 }
 
-// Whether the mode refuses the pages for the encoding of their texts.
-fn is_refused(mode: Mode, found: &Found) -> bool
-    ensures { result ≡ refused_by mode (finding found.now) }
+// Whether the listing refuses the pages for the encoding of their texts.
+fn is_refused(listing: Listing, found: &Found) -> bool
+    ensures { result ≡ refused_by listing (finding found.now) }
 {
-    match mode {
-        Mode::Schema => is_utf16(found),
-        Mode::Dbdata | Mode::Dbptr => false,
+    match listing {
+        Listing::Schema => is_utf16(found),
+        Listing::Dbdata | Listing::Dbptr => false,
     }
 }
 
 // Lists a file in the report, and finishes the report.
 fn put_all<S: Source, R: Sink>(
     alloc: Global,
-    mode: Mode,
+    listing: Listing,
     geo: &Geometry,
     src: &mut S,
     report: &mut R,
 ) -> Result<(), Fault>
     ensures text { IfSome (S.bytes src.old)
-        (λ all. GivesWanted (Ok (listing_of mode (file_of all geo.now))) (R.bytes report.old)
+        (λ all. GivesWanted (Ok (listing_of listing (file_of all geo.now))) (R.bytes report.old)
         (R.bytes report.new) result) }
     ensures finished { OnOk result (R.finished report.new ≡ true) }
     ensures source { HasCauseOf Fault.InputFault (S.faults src.old) (S.faults src.new) result }
@@ -112,31 +111,31 @@ fn put_all<S: Source, R: Sink>(
     ensures kept { KeepsSource S.bytes S.attached S.faults S.reads src.old src.new }
     ensures late { IsLate result }
 {
-    put_listing(alloc, mode, geo, src, report)?;
+    put_listing(alloc, listing, geo, src, report)?;
     finish(report)
 }
 
 // Lists a file in the report.
 fn put_listing<S: Source, R: Sink>(
     alloc: Global,
-    mode: Mode,
+    listing: Listing,
     geo: &Geometry,
     src: &mut S,
     report: &mut R,
 ) -> Result<(), Fault>
     ensures text { IfSome (S.bytes src.old) (λ all.
         WritesOf Fault.ReportFault (R.bytes report.old) (R.bytes report.new) (R.faults report.old)
-        (R.faults report.new) (listing_of mode (file_of all geo.now)) result) }
+        (R.faults report.new) (listing_of listing (file_of all geo.now)) result) }
     ensures source { HasCauseOf Fault.InputFault (S.faults src.old) (S.faults src.new) result }
     ensures sink { HasCauseOf Fault.ReportFault (R.faults report.old) (R.faults report.new) result }
     ensures kept { KeepsSource S.bytes S.attached S.faults S.reads src.old src.new }
     ensures kept_sink { KeepsSink R.created R.finished R.faults report.old report.new }
     ensures late { IsLate result }
 {
-    match mode {
-        Mode::Dbdata => list_data(alloc, src, geo, report)?,
-        Mode::Dbptr => list_pointers(alloc, src, geo, report)?,
-        Mode::Schema => list_schema(alloc, src, geo, report)?,
+    match listing {
+        Listing::Dbdata => list_data(alloc, src, geo, report)?,
+        Listing::Dbptr => list_pointers(alloc, src, geo, report)?,
+        Listing::Schema => list_schema(alloc, src, geo, report)?,
     }
     Ok(())
 }

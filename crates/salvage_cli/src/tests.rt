@@ -24,7 +24,7 @@ struct Ran {
     errors: Vec<u8>,
 }
 
-fn words_of(alloc: Global, words: &[&str]) -> Result<Vec<String>, Fail> {
+pub(crate) fn words_of(alloc: Global, words: &[&str]) -> Result<Vec<String>, Fail> {
     let mut owned = Vec::new(alloc);
     for word in words {
         owned.push(String::from_str(alloc, word)?)?;
@@ -32,11 +32,11 @@ fn words_of(alloc: Global, words: &[&str]) -> Result<Vec<String>, Fail> {
     Ok(owned)
 }
 
-fn no_failure(alloc: Global) -> Vec<MemFail> {
+pub(crate) fn no_failure(alloc: Global) -> Vec<MemFail> {
     Vec::new(alloc)
 }
 
-fn one_failure(alloc: Global, call: u64, keep: u64) -> Result<Vec<MemFail>, Fail> {
+pub(crate) fn one_failure(alloc: Global, call: u64, keep: u64) -> Result<Vec<MemFail>, Fail> {
     let mut fails = Vec::new(alloc);
     fails.push(MemFail { call, keep })?;
     Ok(fails)
@@ -76,7 +76,7 @@ fn ran_on(alloc: Global, words: &[&str], bytes: Vec<u8>) -> Result<Ran, Fail> {
 }
 
 // Writes a piece at a place, as far as there is room.
-fn place(bytes: &mut [u8], at: u16, piece: &[u8]) {
+pub(crate) fn place(bytes: &mut [u8], at: u16, piece: &[u8]) {
     for (byte, new) in bytes.iter_mut().skip(at as usize).zip(piece) {
         *byte = *new;
     }
@@ -98,7 +98,7 @@ fn file_of_t(alloc: Global, pages: u8) -> Result<Vec<u8>, Fail> {
 }
 
 // Two pages: table t with the rows 1 (5, 'x') and 2 (NULL, a blob of a zero).
-fn two_rows(alloc: Global) -> Result<Vec<u8>, Fail> {
+pub(crate) fn two_rows(alloc: Global) -> Result<Vec<u8>, Fail> {
     let mut bytes = file_of_t(alloc, 2)?;
     let all = bytes.as_mut_slice();
     place(

@@ -1,7 +1,8 @@
 //! The real objects, over a writer that can fail and over files that every Linux machine has.
-use super::{FileSource, StreamSink};
+use super::{FileSink, FileSource, StreamSink};
 use page_access::{Failed, Sink, Source};
 use std::alloc::Global;
+use std::fs;
 use std::io::{self, ErrorKind, Write};
 use std::test::Fail;
 
@@ -103,5 +104,45 @@ fn what_is_no_regular_file_is_not_attached(rt: HostRuntime) -> Result<(), Fail> 
     assert_eq!(rt; src.length(), Err(Failed));
     assert_eq!(rt; src.read_at(0, &mut [0]), Err(Failed));
     assert_eq!(rt; src.faults, 7);
+    Ok(())
+}
+
+// The name of a file that no other test writes, which is not there.
+fn new_name(rt: &HostRuntime, name: &str) -> Result<String, Fail> {
+    let _ = fs::remove_file(rt, name);
+    Ok(String::from_str(rt.alloc(), name)?)
+}
+
+#[test]
+fn a_new_file_has_what_is_put(rt: HostRuntime) -> Result<(), Fail> {
+    let mut sink = FileSink::new(&rt);
+    assert_eq!(rt; sink.create(new_name(&rt, "new_file.tmp")?), Ok(()));
+    assert_eq!(rt; sink.put(b"abc"), Ok(()));
+    assert_eq!(rt; sink.finish(), Ok(()));
+    assert_eq!(rt; (sink.finished, sink.faults), (true, 0));
+    let read = fs::read_to_string(&rt, "new_file.tmp");
+    fs::remove_file(&rt, "new_file.tmp")?;
+    assert_eq!(rt; read?.as_str(), "abc");
+    Ok(())
+}
+
+#[test]
+fn a_file_that_is_there_is_not_made_again(rt: HostRuntime) -> Result<(), Fail> {
+    let mut first = FileSink::new(&rt);
+    assert_eq!(rt; first.create(new_name(&rt, "old_file.tmp")?), Ok(()));
+    let mut sink = FileSink::new(&rt);
+    let again = sink.create(String::from_str(rt.alloc(), "old_file.tmp")?);
+    fs::remove_file(&rt, "old_file.tmp")?;
+    assert_eq!(rt; again, Err(Failed));
+    assert_eq!(rt; sink.faults, 1);
+    Ok(())
+}
+
+#[test]
+fn nothing_is_put_before_a_file_is_made(rt: HostRuntime) -> Result<(), Fail> {
+    let mut sink = FileSink::new(&rt);
+    assert_eq!(rt; sink.put(b"a"), Err(Failed));
+    assert_eq!(rt; sink.finish(), Err(Failed));
+    assert_eq!(rt; (sink.finished, sink.faults), (false, 2));
     Ok(())
 }

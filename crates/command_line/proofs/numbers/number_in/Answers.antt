@@ -1,7 +1,6 @@
-use Rattle.std.proofs.Common.{◌≡◌, true, false, ◌∙◌, ◌==◌, length, sym, arith, rules}
+use Rattle.std.proofs.Common.{◌≡◌, true, false, ◌∙◌, ◌==◌, length, rules}
 use Rattle.std.specs.List.{list_all}
 use Rattle.std.specs.Char.{is_ascii_digit}
-use Rattle.std.proofs.lemmas.Bool.Decides.{nat_tests}
 use Rattle.command_line.specs.Numbers.{has_leading_zero}
 use Rattle.command_line.proofs.Digits.{digits_read}
 use Rattle.command_line.proofs.numbers.number_in.Goals as goal

@@ -6,5 +6,5 @@ use Rattle.salvage_cli.proofs.listings.put_all.Goals as goal
 
 pub returns-clause-text : goal.returns-clause-text
 returns-clause-text g c =
-    finished (g.S.Source.bytes c.args.src.now) (g.S.Source.bytes c.args.src.now) _ _ _ _ _ (λ all. listing_of c.args.mode (file_of all c.args.geo.now)) _ _
+    finished (g.S.Source.bytes c.args.src.now) (g.S.Source.bytes c.args.src.now) _ _ _ _ _ (λ all. listing_of c.args.listing (file_of all c.args.geo.now)) _ _
     refl c.in_ok-put_listing.ensures.text c.finish.ensures.bytes c.finish.ensures.only

@@ -1,0 +1,109 @@
+-- What a recovery leaves (docs/TEXTS.md, "Statuses").
+use Rattle.std.specs.Prelude.{◌≡◌, ◌⊎◌, ◌^◌, ℕ, List, Option, Some, None, Result, Ok, Err, IfSome, ⊤}
+use Rattle.command_line.specs.Parts.{Asked, Lists, RecoveryAsked, Recovers}
+use Rattle.salvage_core.specs.declared.faults.Fault.{Fault as CoreFault}
+use Rattle.salvage_core.specs.declared.faults.Fault.TheVariants as core
+use Rattle.salvage_core.specs.declared.options.Options.{Options}
+use Rattle.salvage_core.specs.declared.recovers.Summary.{Summary}
+use Rattle.salvage_core.specs.Outcome.{Ends, IsDone, IsOver, Outputs, SinkTurn, StopsAtDatabase, StopsAtReport, StopsAtScript}
+use Rattle.salvage_core.specs.Plan.{IsRefused}
+use Rattle.salvage_cli.specs.Answers.{fault_status, of_core}
+use Rattle.salvage_cli.specs.declared.faults.Fault.{Fault}
+use Rattle.salvage_cli.specs.declared.faults.Fault.TheVariants.{OutputFault, ScriptFault, ReportFault}
+
+-- the options of a recovery, with the limits of the program
+abbrev pub options_of : RecoveryAsked → Options
+options_of r = record {
+  page_size = r.input.page_size;
+  reserved = r.input.reserved;
+  input_limit = 2 ^ 28;
+  load_limit = 2 ^ 32;
+}
+
+-- what a run makes of the sinks of the database, of the script and of the report
+pub record Turns : Type 0 where
+  pub out : SinkTurn
+  pub script : SinkTurn
+  pub report : SinkTurn
+
+-- the same, with the names that the words give
+abbrev pub outputs_of : RecoveryAsked → Turns → Outputs
+outputs_of r turns = record {
+  database = r.output;
+  script = r.script;
+  out_turn = turns.out;
+  script_turn = turns.script;
+  report_turn = turns.report;
+}
+
+-- the end of a recovery, as an answer of the program
+abbrev pub answer_of : Result Summary CoreFault → Result (Unit {0}) Fault
+answer_of (Ok summary) = Ok tt
+answer_of (Err fault) = Err (of_core fault)
+
+-- a recovery ends with this answer
+pub record EndsAs (r : RecoveryAsked) (told : Option (List ℕ)) (turns : Turns) (answer : Result (Unit {0}) Fault) : Type 0 where
+  pub end : Result Summary CoreFault
+  pub answer_is : answer ≡ answer_of end
+  pub ends : Ends (options_of r) told (outputs_of r turns) end
+
+-- the database was not begun: all is refused that is not done, but for the faults of the three sinks
+abbrev pub IsBeforeOutput : {A : Type 0} → Result A Fault → Type 0
+IsBeforeOutput (Ok done) = ⊥
+IsBeforeOutput (Err OutputFault) = ⊥
+IsBeforeOutput (Err ScriptFault) = ⊥
+IsBeforeOutput (Err ReportFault) = ⊥
+IsBeforeOutput (Err fault) = ⊤
+
+-- the script was not begun
+abbrev pub IsBeforeScript : {A : Type 0} → Result A Fault → Type 0
+IsBeforeScript (Err OutputFault) = ⊤
+IsBeforeScript answer = IsBeforeOutput answer
+
+-- the report was not begun
+abbrev pub IsBeforeReport : {A : Type 0} → Result A Fault → Type 0
+IsBeforeReport (Err ScriptFault) = ⊤
+IsBeforeReport answer = IsBeforeScript answer
+
+-- ---- what the statuses say, where a recovery is asked for
+
+-- 0: all is done, of the plan of the input
+abbrev pub IsRecovered : Option Asked → Option (List ℕ) → Turns → Type 0
+IsRecovered (Some (Recovers r)) told turns = (s : Summary) × IsDone (options_of r) told (outputs_of r turns) s
+IsRecovered command told turns = ⊤
+
+-- 7: the database is not written whole; 7 is a status of recoveries alone, as 8 and 6 are
+abbrev pub StopsAtOutput : Option Asked → Option (List ℕ) → Turns → Type 0
+StopsAtOutput (Some (Recovers r)) told turns = StopsAtDatabase (options_of r) told (outputs_of r turns)
+StopsAtOutput command told turns = ⊥
+
+-- 8: the database is whole, and the script is not
+abbrev pub StopsAtTexts : Option Asked → Option (List ℕ) → Turns → Type 0
+StopsAtTexts (Some (Recovers r)) told turns = StopsAtScript (options_of r) told (outputs_of r turns)
+StopsAtTexts command told turns = ⊥
+
+-- 9: the database and the script are whole, and the report is not
+abbrev pub StopsAtLines : Option Asked → Option (List ℕ) → Turns → Type 0
+StopsAtLines (Some (Recovers r)) told turns = StopsAtReport (options_of r) told (outputs_of r turns)
+StopsAtLines command told turns = ⊤
+
+-- 6: the load of the database is over the limit
+abbrev pub IsTooMuch : Option Asked → Option (List ℕ) → Type 0
+IsTooMuch (Some (Recovers r)) told = (load : ℕ) × IsOver (options_of r) told load
+IsTooMuch command told = ⊥
+
+-- 4, 5 and 12: the input is refused for a cause of this status
+abbrev pub IsBarred : Option Asked → Option (List ℕ) → ℕ → Type 0
+IsBarred (Some (Recovers r)) told status = IfSome told
+    (λ all. (fault : CoreFault) × ((status ≡ fault_status (of_core fault)) × IsRefused (options_of r) all fault))
+IsBarred command told status = ⊤
+
+-- nothing but a failing source or want of memory stands in the way of a recovery of these bytes
+pub record IsRecoverable (r : RecoveryAsked) (all : List ℕ) : Type 0 where
+  pub read : (fault : CoreFault) → IsRefused (options_of r) all fault → (fault ≡ core.InputFault) ⊎ (fault ≡ core.Memory)
+  pub small : (load : ℕ) → IsOver (options_of r) (Some all) load → ⊥
+
+-- the same of a command that is a recovery
+abbrev pub IsRecoverableBy : Option Asked → List ℕ → Type 0
+IsRecoverableBy (Some (Recovers r)) all = IsRecoverable r all
+IsRecoverableBy command all = ⊥

@@ -5,7 +5,6 @@ ghost use Rattle.cell_reader.specs.declared.shapes.Kind.{Kind};
 ghost use Rattle.page_walk.specs.Cells.{row_of};
 ghost use Rattle.page_walk.specs.InTurn.{IsSmallTurn, turn_of};
 ghost use Rattle.schema_texts.specs.Readings.{AreReadings, is_table, tables_from};
-ghost use Rattle.table_parts.specs.Lines.{table_lines};
 ghost use Rattle.table_shape.specs.Seen.{shape_seen};
 ghost use Rattle.tree_uses.specs.Trees.{tree_of, turns_of};
 ghost use Rattle.salvaged_tables.specs.Bounds.{AreOnPages};
@@ -17,14 +16,14 @@ use crate::failures::add_failed;
 use crate::places::{FailedEntry, LostCell, Placed, ScriptText};
 use crate::tables::{PlacedRows, add_left, add_lost, placed_rows, text_of};
 use crate::texts::{add_table_text, add_text};
-use page_walk::{PageNotes, PageTurn, TakenCell};
+use page_walk::{PageTurn, TakenCell};
 use raw_schema::{SchemaKind, SchemaRow};
 use record_core::Bytes;
 use report_text::ReportLine;
 use schema_texts::{Reading, TableReading};
 use std::alloc::{AllocError, Global};
 use std::vec::IntoIter;
-use table_parts::{TableCells, TablePart, add_lines, cells_of, part_of};
+use table_parts::{TableCells, TablePart, cells_of, lines_of, part_of};
 use table_shape::{OutTable, TableShape};
 use tree_uses::{TreeTurns, TreeUse};
 
@@ -167,21 +166,6 @@ fn root_of(pages: &[u32]) -> u32
     ensures { result ≡ root_of pages.now }
 {
     pages.first().copied().unwrap_or(0)
-}
-
-// The lines of a table in the report.
-fn lines_of(
-    alloc: Global,
-    name: &Bytes,
-    pages: u64,
-    part: &TablePart,
-    notes: &[(u32, PageNotes)],
-) -> Result<Vec<ReportLine>, AllocError>
-    ensures { IfOk result (λ v. v.items ≡ table_lines name.now pages part.now notes.now) }
-{
-    let mut lines = Vec::new(alloc);
-    add_lines(alloc, name, pages, part, notes, &mut lines)?;
-    Ok(lines)
 }
 
 // Adds what a table is built of, or its text, and the cells that are no rows.

@@ -1,4 +1,3 @@
-pub mod Names
 pub mod Numbers
 pub mod Parts
 pub mod Command

@@ -1,7 +1,6 @@
 //! The command line: which words are a command, and what they ask for.
 #![tactic(auto)]
 
-mod names;
 mod numbers;
 mod options;
 mod request;

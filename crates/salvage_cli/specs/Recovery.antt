@@ -1,6 +1,6 @@
 -- What a recovery leaves (docs/TEXTS.md, "Statuses").
-use Rattle.std.specs.Prelude.{◌≡◌, ◌⊎◌, ◌^◌, ℕ, List, Option, Some, None, Result, Ok, Err, IfSome, ⊤}
-use Rattle.command_line.specs.Parts.{Asked, Lists, RecoveryAsked, Recovers}
+use Rattle.std.specs.Prelude.{◌≡◌, ◌⊎◌, ◌^◌, ℕ, List, Option, Some, Result, Ok, Err, IfSome, ⊤}
+use Rattle.command_line.specs.Parts.{Asked, RecoveryAsked, Recovers}
 use Rattle.salvage_core.specs.declared.faults.Fault.{Fault as CoreFault}
 use Rattle.salvage_core.specs.declared.faults.Fault.TheVariants as core
 use Rattle.salvage_core.specs.declared.options.Options.{Options}

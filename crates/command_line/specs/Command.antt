@@ -30,7 +30,10 @@ reserved_rule = record (new_rule (codes "reserved")) { long = Some (codes "reser
 
 -- `--freelist-corrupt`
 abbrev pub freelist_rule : Rule
-freelist_rule = record (new_rule (codes "freelist-corrupt")) { long = Some (codes "freelist-corrupt"); action = Some SetTrue }
+freelist_rule = record (new_rule (codes "freelist-corrupt")) {
+  long = Some (codes "freelist-corrupt");
+  action = Some SetTrue;
+}
 
 -- `--lost NAME`
 abbrev pub lost_rule : Rule
@@ -46,7 +49,8 @@ words_app = with_rule (with_rule bare_app mode_rule) word_rule
 
 -- the command line
 unfoldable pub app : App
-app = with_rule (with_rule (with_rule (with_rule words_app page_size_rule) reserved_rule) freelist_rule) lost_rule
+app = with_rule (with_rule (with_rule (with_rule words_app page_size_rule) reserved_rule)
+    freelist_rule) lost_rule
 
 -- the options' values in the matches of a command line
 abbrev pub values_in : List Row → Values

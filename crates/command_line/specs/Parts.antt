@@ -87,7 +87,8 @@ is_for_pages values = not (values.freelist_corrupt || is_some values.lost)
 -- a listing of one input
 unfoldable pub list_of : Listing → Option (List Word) → Values → Option Asked
 list_of listing words values =
-    if is_for_pages values then option_and_then (λ name. option_map (λ file. Lists listing file) (file_of name values)) (only_word words)
+    if is_for_pages values
+    then option_and_then (λ name. option_map (λ file. Lists listing file) (file_of name values)) (only_word words)
     else None
 
 -- the name for the lost rows is in order, where it is given

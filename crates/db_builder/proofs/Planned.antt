@@ -65,6 +65,23 @@ asks size longest lock tables es p t is locked same =
       number = number;
     }
 
+-- the rows that stand in the table of a planned tree
+pub rows_there : (size longest : ℕ) (tables : List OutTable) (table : OutTable) (rows : List OutRow) (p : Placed) (t : PlannedTree) → IsPlanned size tables longest p t
+    → table ≡ get_or tables t.table table → rows ≡ (get_or tables t.table table).rows.items → rows ≡ rows_at tables t.table
+rows_there size longest tables table rows p t is at e = e ∙ ap (λ (x : OutTable). x.rows.items) (sym at) ∙ sym (rows_are tables t.table table is.there at)
+
+-- what puts the pages of a tree over rows, and over rows in the order of an index
+pub asks_rows : (size longest lock : ℕ) (tables : List OutTable) (rows : List OutRow) (p : Placed) (t : PlannedTree) → IsPlanned size tables longest p t
+    → lock ≡ lock_of size → t.index ≡ None → rows ≡ rows_at tables t.table → Asks size longest lock (row_entries rows) p t
+asks_rows size longest lock tables rows p t is locked none there =
+    asks size longest lock tables (row_entries rows) p t is locked (same_rows size longest tables rows p t is none there)
+
+pub asks_index : (size longest lock : ℕ) (tables : List OutTable) (rows : List OutRow) (p : Placed) (t : PlannedTree) (ix : IndexOrder) (parts : List KeyPart) (order : List ℕ)
+    → IsPlanned size tables longest p t → lock ≡ lock_of size → t.index ≡ Some ix → parts ≡ ix.parts.items → order ≡ ix.order.items → rows ≡ rows_at tables t.table
+    → Asks size longest lock (index_entries parts rows order) p t
+asks_index size longest lock tables rows p t ix parts order is locked some ps os there =
+    asks size longest lock tables (index_entries parts rows order) p t is locked (same_index size longest tables rows p t ix parts order is some ps os there)
+
 -- an item of two lists that go together
 pub record Zipped {A B : Type 0} (R : A → B → Type 0) (i : ℕ) (xs : List A) (y : B) : Type 0 where
   pub x : A

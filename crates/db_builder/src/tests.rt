@@ -1,7 +1,7 @@
 //! Files, by hand from the standard (fileformat2.html, 1.3 to 1.7 and 2.6).
 
-ghost use Rattle.std.specs.Prelude.{◌≤◌, ◌∷◌, [], IfOk, length};
-ghost use Rattle.db_builder.specs.Load.{HaveFewValues};
+ghost use Rattle.std.specs.Prelude.{◌≡◌, ◌∷◌, [], Some, pos, IfOk, IfSome, codes, false, length, true};
+ghost use Rattle.db_builder.specs.Valid.{IsTable, IsValid};
 
 use crate::*;
 use create_reader::read_create;
@@ -9,10 +9,11 @@ use page_access::MemSink;
 use record_core::{Bytes, Value};
 use std::alloc::{AllocError, Global};
 use std::test::Fail;
-use table_shape::{OutRow, OutTable};
+use table_shape::{OutRow, OutTable, TableShape};
 
 fn row(alloc: Global, rowid: i64, values: [Value; 2]) -> Result<OutRow, AllocError>
-    ensures { IfOk result (λ r. length r.fields.items ≤ 4000) }
+    ensures rowid { IfOk result (λ r. r.rowid ≡ Some rowid) }
+    ensures fields { IfOk result (λ r. length r.fields.items ≡ 2) }
 {
     Ok(OutRow {
         rowid: Some(rowid),
@@ -20,35 +21,78 @@ fn row(alloc: Global, rowid: i64, values: [Value; 2]) -> Result<OutRow, AllocErr
     })
 }
 
-fn two_rows(alloc: Global, first: OutRow, second: OutRow) -> Result<Vec<OutRow>, AllocError>
-    requires first { length first.fields.items ≤ 4000 }
-    requires second { length second.fields.items ≤ 4000 }
-    ensures { IfOk result (λ rows. HaveFewValues rows.items) }
+// Two rows: 5 and 'x', NULL and a byte 0.
+fn two_rows(alloc: Global) -> Result<Vec<OutRow>, AllocError>
+    ensures { IfOk result (λ v. (a b : OutRow) × (v.items ≡ a ∷ b ∷ []) × (a.rowid ≡ Some (pos 1))
+        × (b.rowid ≡ Some (pos 2)) × (length a.fields.items ≡ 2) × (length b.fields.items ≡ 2)) }
 {
+    let text = Value::Text(Bytes::copy_of(alloc, b"x")?);
+    let blob = Value::Blob(Bytes::copy_of(alloc, &[0])?);
+    let first = row(alloc, 1, [Value::Whole(5), text])?;
+    let second = row(alloc, 2, [Value::Null, blob])?;
     Ok(Vec::from_array(alloc, [first, second])?)
+}
+
+// Whether a shape is of a table t with rowids, two columns and no key.
+fn is_plain(shape: &TableShape) -> bool
+    ensures name { result ≡ true → shape.now.name ≡ codes "t" }
+    ensures columns { result ≡ true → length shape.now.columns.items ≡ 2 }
+    ensures rowids { result ≡ true → shape.now.without_rowid ≡ false }
+    ensures keys { result ≡ true → shape.now.keys.items ≡ [] }
+{
+    shape.name.as_slice() == b"t".as_slice()
+        && shape.columns.len() == 2
+        && !shape.without_rowid
+        && shape.keys.is_empty()
+}
+
+// The table t with these rows, where its text is read as that of a plain table.
+fn table_of_two_rows(alloc: Global) -> Result<Option<OutTable>, Fail>
+    ensures { IfOk result (λ t. IfSome t IsTable) }
+{
+    let text = Bytes::copy_of(alloc, b"CREATE TABLE t(a,b)")?;
+    let shape = read_create(alloc, text.as_slice())?;
+    if !is_plain(&shape) {
+        return Ok(None);
+    }
+    Ok(Some(OutTable {
+        name: Bytes::copy_of(alloc, b"t")?,
+        text,
+        shape,
+        rows: two_rows(alloc)?,
+    }))
+}
+
+fn one_table(alloc: Global) -> Result<OutDb, Fail>
+    ensures { IfOk result IsValid }
+{
+    let mut tables = Vec::new(alloc);
+    if let Some(table) = table_of_two_rows(alloc)? {
+        tables.push(table)?;
+    }
+    Ok(OutDb {
+        tables,
+        user_version: 0,
+        application_id: 0,
+    })
 }
 
 // A row of the schema has 33 and 3 bytes, the rows have 5 and 4, and each counts 32 more.
 #[test]
 fn a_table_of_two_rows_has_the_load_141(rt: HostRuntime) -> Result<(), Fail> {
-    let alloc = rt.alloc();
-    let text = Value::Text(Bytes::copy_of(alloc, b"x")?);
-    let blob = Value::Blob(Bytes::copy_of(alloc, &[0])?);
-    let first = row(alloc, 1, [Value::Whole(5), text])?;
-    let second = row(alloc, 2, [Value::Null, blob])?;
-    let table = OutTable {
-        name: Bytes::copy_of(alloc, b"t")?,
-        text: Bytes::copy_of(alloc, b"CREATE TABLE t(a,b)")?,
-        shape: read_create(alloc, b"CREATE TABLE t(a,b)")?,
-        rows: two_rows(alloc, first, second)?,
-    };
-    let db = OutDb {
-        tables: Vec::from_array(alloc, [table])?,
-        user_version: 0,
-        application_id: 0,
-    };
-    let load = load_of(&db);
-    assert_eq!(rt; load, 141);
+    let db = one_table(rt.alloc())?;
+    assert_eq!(rt; load_of(&db), 141);
+    let refused = prepare(rt.alloc(), &db, 512, 100);
+    assert_eq!(rt; refused.err(), Some(PrepareFault::TooLarge { load: 141 }));
+    Ok(())
+}
+
+// Page 1, and the leaf of the table.
+#[test]
+fn a_table_of_two_rows_has_two_pages(rt: HostRuntime) -> Result<(), Fail> {
+    let db = one_table(rt.alloc())?;
+    let mut sink = MemSink::new(rt.alloc(), 1024, Vec::new(rt.alloc()))?;
+    assert_eq!(rt; build(rt.alloc(), &db, 512, 141, &mut sink).ok(), Some(2));
     Ok(())
 }
 

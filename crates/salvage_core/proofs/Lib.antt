@@ -1,0 +1,3 @@
+pub mod Assembling
+pub mod Counting
+pub mod Ending

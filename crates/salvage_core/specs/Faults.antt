@@ -1,8 +1,8 @@
 -- Refusals of lower calls as those of a salvage (docs/TEXTS.md, "Statuses").
 use Rattle.page_access.specs.declared.outside.ReadFault.{ReadFault}
 use Rattle.page_access.specs.declared.outside.ReadFault.TheVariants as read
-use Rattle.input_pages.specs.declared.inputs.InputFault.{InputFault}
-use Rattle.input_pages.specs.declared.inputs.InputFault.TheVariants as input
+use Rattle.input_pages.specs.declared.faults.InputFault.{InputFault}
+use Rattle.input_pages.specs.declared.faults.InputFault.TheVariants as input
 use Rattle.db_builder.specs.declared.faults.PrepareFault.{PrepareFault}
 use Rattle.db_builder.specs.declared.faults.PrepareFault.TheVariants as prepare
 use Rattle.salvage_core.specs.declared.faults.Fault.{Fault}

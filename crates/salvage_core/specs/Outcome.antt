@@ -1,5 +1,5 @@
 -- How a salvage ends, and what it leaves in its three sinks (docs/TEXTS.md, "Statuses").
-use Rattle.std.specs.Prelude.{◌≡◌, ◌<◌, ◌≤◌, ◌×◌, ℕ, ◌^◌, ◌-◌, min, Bool, true, Option, Some, None, IfSome, List, ◌++◌, length, map, sum_by, Result, Ok, Err, ⊤}
+use Rattle.std.specs.Prelude.{◌≡◌, ◌<◌, ◌≤◌, ℕ, ◌^◌, ◌-◌, min, Bool, true, Option, Some, None, IfSome, List, ◌++◌, length, map, sum_by, Result, Ok, Err, ⊤}
 use Rattle.std.specs.List.{flat_map}
 use Rattle.page_access.specs.Outside.{Gains, GainsPrefix, Rose}
 use Rattle.report_text.specs.Lines.{line_text}
@@ -126,6 +126,34 @@ Ends o told to (Err faults.ScriptFault) = StopsAtScript o told to
 Ends o told to (Err faults.ReportFault) = StopsAtReport o told to
 Ends o told to (Err (faults.OutputTooLarge n)) = IsOver o told n
 Ends o told to (Err fault) = IfSome told (λ all. IsRefused o all fault)
+
+-- ---- steps
+
+-- all three are written
+pub record IsWritten (g : Gathered) (to : Outputs) (s : Summary) : Type 0 where
+  pub database : IsMade to.database (database_of g) to.out_turn
+  pub script : IsMade to.script (script_in g) to.script_turn
+  pub report : IsWhole (report_of g) to.report_turn
+  pub pages : s.pages_out ≡ pages_out g
+  pub rows : s.rows ≡ rows_out g
+
+-- how the writing ends
+abbrev pub EndsWriting : Gathered → Outputs → Result Summary Fault → Type 0
+EndsWriting g to (Ok s) = IsWritten g to s
+EndsWriting g to (Err faults.OutputFault) = IsCut (database_of g) to.out_turn
+EndsWriting g to (Err faults.ScriptFault) =
+    IsMade to.database (database_of g) to.out_turn × IsCut (script_in g) to.script_turn
+EndsWriting g to (Err faults.ReportFault) =
+    IsMade to.database (database_of g) to.out_turn
+    × (IsMade to.script (script_in g) to.script_turn × IsCut (report_of g) to.report_turn)
+EndsWriting g to (Err fault) = ⊥
+
+-- the same of a database whose load is looked at first
+abbrev pub EndsOut : Gathered → ℕ → Outputs → Result Summary Fault → Type 0
+EndsOut g limit to (Ok s) = IsWritten g to s × (load g.db ≤ limit)
+EndsOut g limit to (Err (faults.OutputTooLarge n)) = (limit < load g.db) × (n ≡ load g.db)
+EndsOut g limit to (Err faults.Memory) = ⊤
+EndsOut g limit to (Err fault) = EndsWriting g to (Err fault)
 
 -- nothing was written: the refusals that come before the first sink is asked
 abbrev pub IsBefore : {A : Type 0} → Result A Fault → Type 0

@@ -1,7 +1,14 @@
 //! The parts of a file, put together.
+ghost use Rattle.std.specs.Prelude.{◌≡◌, length, IfOk};
+ghost use Rattle.page_access.specs.Pages.{File};
+ghost use Rattle.page_size.specs.Rule.{finding};
+ghost use Rattle.salvage_core.specs.Plan.{IsFileOf, IsFilePlan, header_number};
+ghost use Rattle.salvage_core.specs.Sound.{IsSound};
+ghost use Rattle.salvage_core.specs.Uses.{AreUses, HaveReadings};
+
 use crate::Gathered;
 use crate::fronts::front_lines;
-use crate::gather::FoundUses;
+use crate::gathers::FoundUses;
 use db_builder::OutDb;
 use input_pages::Input;
 use page_size::{Found, Origin};
@@ -9,7 +16,6 @@ use report_text::ReportLine;
 use salvaged_tables::{SalvagedTables, salvage_tables};
 use std::alloc::{AllocError, Global};
 use table_shape::OutTable;
-use tree_uses::TreeUse;
 use use_order::FileUses;
 
 /// What a file gives, by the uses of its pages.

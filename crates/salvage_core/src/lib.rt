@@ -5,13 +5,13 @@
 mod assemble;
 mod faults;
 mod fronts;
-mod gather;
+mod gathers;
 mod gathered;
 mod options;
 mod recovers;
 
 pub use faults::Fault;
-pub use gather::gather;
+pub use gathers::gather;
 pub use gathered::Gathered;
 pub use options::Options;
 pub use recovers::{Summary, recover};

@@ -1,10 +1,11 @@
 //! The salvage.
-ghost use Rattle.std.specs.Prelude.{◌≡◌, ◌≤◌, ◌^◌, ◌-◌, min, length, sum_by, Some, IfOk, OnOk, string_bytes};
+ghost use Rattle.std.specs.Prelude.{◌≡◌, ◌≤◌, ◌^◌, ◌-◌, min, length, sum_by, Some, OnOk, string_bytes};
 ghost use Rattle.page_access.specs.Outside.{HasCauseOf};
 ghost use Rattle.table_shape.specs.declared.rows.OutTable.{OutTable};
 ghost use Rattle.db_builder.specs.Prepared.{IsPrepared};
 ghost use Rattle.salvage_core.specs.Plan.{AreOptions};
-ghost use Rattle.salvage_core.specs.Outcome.{Ends, HasNumbers, IsBefore, IsBeforeReport, IsBeforeScript, turn_of};
+ghost use Rattle.salvage_core.specs.Sound.{IsSound};
+ghost use Rattle.salvage_core.specs.Outcome.{Ends, EndsOut, EndsWriting, HasNumbers, IsBefore, IsBeforeReport, IsBeforeScript, turn_of};
 
 use crate::{Fault, Gathered, Options, gather};
 use db_builder::{Prepared, prepare};
@@ -61,10 +62,40 @@ pub fn recover<S: Source, O: Sink, T: Sink, R: Sink>(
     ensures report_name { R.created report.new ≡ R.created report.old }
 {
     let gathered = gather(alloc, opts, input, src)?;
-    let prepared = prepare(alloc, &gathered.db, gathered.page_size, opts.load_limit)?;
+    let limit = opts.load_limit;
+    write_out(alloc, &gathered, limit, output, script_name, out, script, report)
+}
+
+// Writes what was gathered, where its load is at most the limit. All memory is taken first.
+fn write_out<O: Sink, T: Sink, R: Sink>(
+    alloc: Global,
+    gathered: &Gathered,
+    limit: u64,
+    output: &str,
+    script_name: &str,
+    out: &mut O,
+    script: &mut T,
+    report: &mut R,
+) -> Result<Summary, Fault>
+    requires sound { IsSound gathered.now }
+    requires limit { limit ≤ 2 ^ 35 }
+    ensures ends { EndsOut gathered.now limit (record {
+        database = output.now; script = script_name.now;
+        out_turn = turn_of O.bytes O.created O.finished O.faults out.old out.new;
+        script_turn = turn_of T.bytes T.created T.finished T.faults script.old script.new;
+        report_turn = turn_of R.bytes R.created R.finished R.faults report.old report.new }) result }
+    ensures output { HasCauseOf Fault.OutputFault (O.faults out.old) (O.faults out.new) result }
+    ensures script { HasCauseOf Fault.ScriptFault (T.faults script.old) (T.faults script.new) result }
+    ensures report { HasCauseOf Fault.ReportFault (R.faults report.old) (R.faults report.new) result }
+    ensures out_kept { IsBefore result → out.new ≡ out.old }
+    ensures script_kept { IsBeforeScript result → script.new ≡ script.old }
+    ensures report_kept { IsBeforeReport result → report.new ≡ report.old }
+    ensures report_name { R.created report.new ≡ R.created report.old }
+{
+    let prepared = prepare(alloc, &gathered.db, gathered.page_size, limit)?;
     let output = String::from_str(alloc, output)?;
     let script_name = String::from_str(alloc, script_name)?;
-    write_all(&gathered, prepared, output, script_name, out, script, report)
+    write_all(gathered, prepared, output, script_name, out, script, report)
 }
 
 // Writes the three files, one after another.
@@ -79,6 +110,18 @@ fn write_all<O: Sink, T: Sink, R: Sink>(
 ) -> Result<Summary, Fault>
     requires size { prepared.page_size ≡ gathered.now.page_size }
     requires prepared { IsPrepared prepared.page_size gathered.now.db prepared }
+    ensures ends { EndsWriting gathered.now (record {
+        database = string_bytes output; script = string_bytes script_name;
+        out_turn = turn_of O.bytes O.created O.finished O.faults out.old out.new;
+        script_turn = turn_of T.bytes T.created T.finished T.faults script.old script.new;
+        report_turn = turn_of R.bytes R.created R.finished R.faults report.old report.new }) result }
+    ensures output { HasCauseOf Fault.OutputFault (O.faults out.old) (O.faults out.new) result }
+    ensures script { HasCauseOf Fault.ScriptFault (T.faults script.old) (T.faults script.new) result }
+    ensures report { HasCauseOf Fault.ReportFault (R.faults report.old) (R.faults report.new) result }
+    ensures begun { IsBefore result → ⊥ }
+    ensures script_kept { IsBeforeScript result → script.new ≡ script.old }
+    ensures report_kept { IsBeforeReport result → report.new ≡ report.old }
+    ensures report_name { R.created report.new ≡ R.created report.old }
 {
     let mut prepared = prepared;
     let db = &gathered.db;

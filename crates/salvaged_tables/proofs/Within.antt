@@ -24,6 +24,7 @@ use Rattle.salvaged_tables.specs.declared.salvage.SalvagedTables.{SalvagedTables
 use Rattle.salvaged_tables.specs.Bounds.{AreOnPages, IsOn}
 use Rattle.salvaged_tables.specs.Fates.{AreFates, Failed, IsFate, StoredTable, TableFate, built_table, failed_of, failed_on, failed_one, has_failed, lost_of, root_of, stored_row, table_of}
 use Rattle.salvaged_tables.specs.Salvaged.{HavePlaces, IsSalvage, failed_seen, lost_seen, rows_at, stored_tables}
+use Rattle.salvaged_tables.specs.Steps.{AreFew}
 use Rattle.salvaged_tables.proofs.Bare.{all_mapped}
 use Rattle.salvaged_tables.proofs.Items.{front, nothing}
 
@@ -172,3 +173,15 @@ are_on_pages usable pages rows rs trees turns v small is =
       failed = all_unmapped (FailedOn pages) failed_seen v.failed.items
           (subst (AllByRecursion (FailedOn pages)) (sym is.salvaged.failed) on.failed);
     }
+
+-- ---- what callers hand over
+
+few_of : (usable pages : ℕ) (turns : List (ℕ × List Outcome)) → usable ≤ 65536 → AllByRecursion (IsSmallTurn usable pages) turns → AreFew turns
+few_of usable pages [] most small = tt
+few_of usable pages (t ∷ turns) most small = (omega (arith, most, small.0.few), few_of usable pages turns most small.1)
+
+-- small turns have few cells, as `salvage_tables` requires
+pub all_few : (usable pages : ℕ) (turns : List (List (ℕ × List Outcome))) → usable ≤ 65536
+    → AllByRecursion (AllByRecursion (IsSmallTurn usable pages)) turns → AllByRecursion AreFew turns
+all_few usable pages [] most small = tt
+all_few usable pages (ts ∷ turns) most small = (few_of usable pages ts most small.0, all_few usable pages turns most small.1)

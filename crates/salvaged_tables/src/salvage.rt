@@ -5,7 +5,6 @@ ghost use Rattle.cell_reader.specs.declared.shapes.Kind.{Kind};
 ghost use Rattle.page_walk.specs.Cells.{row_of};
 ghost use Rattle.page_walk.specs.InTurn.{IsSmallTurn, turn_of};
 ghost use Rattle.schema_texts.specs.Readings.{AreReadings, is_table, tables_from};
-ghost use Rattle.table_parts.specs.Lines.{table_lines};
 ghost use Rattle.table_shape.specs.Seen.{shape_seen};
 ghost use Rattle.tree_uses.specs.Trees.{tree_of, turns_of};
 ghost use Rattle.salvaged_tables.specs.Bounds.{AreOnPages};

@@ -1,12 +1,14 @@
 //! What the bytes of an input give.
-ghost use Rattle.std.specs.Prelude.{◌≡◌, ◌≤◌, ◌^◌, ◌*◌, ◌×◌, length, map, Some, IfOk, IfSome, OnOk};
+ghost use Rattle.std.specs.Prelude.{◌≡◌, ◌≤◌, ◌^◌, ◌*◌, length, map, unwrap_or, IsTrue, Some, IfOk, IfSome, OnOk};
 ghost use Rattle.std.specs.List.{AllByRecursion, range_with_len};
 ghost use Rattle.cell_reader.specs.declared.shapes.Kind.{Kind};
 ghost use Rattle.page_access.specs.Files.{file_of};
 ghost use Rattle.page_access.specs.Outside.{HasCauseOf, KeepsSource};
+ghost use Rattle.page_access.specs.Pages.{is_page_size};
 ghost use Rattle.page_lists.specs.Table.{fresh};
 ghost use Rattle.page_size.specs.Rule.{finding};
-ghost use Rattle.salvage_core.specs.Plan.{AreOptions, Gathers, IsEmptyPlan};
+ghost use Rattle.input_pages.specs.Input.{IsWithin, left_of};
+ghost use Rattle.salvage_core.specs.Plan.{AreOptions, Gathers, IsEmptyPlan, IsPagesAnswer, IsReadAnswer};
 ghost use Rattle.salvage_core.specs.Sound.{IsSound, OnlyOfInput};
 ghost use Rattle.salvage_core.specs.Uses.{AreUses, HaveReadings};
 ghost use Rattle.salvage_core.specs.Outcome.{HasNumbers};
@@ -59,13 +61,26 @@ pub fn gather<S: Source>(
     }
 }
 
+// The page size of a database that is written of nothing.
+fn empty_size(page_size: Option<u32>) -> u32
+    requires { IfSome page_size (λ s. IsTrue (is_page_size s)) }
+    ensures value { result ≡ unwrap_or page_size 4096 }
+    ensures least { 512 ≤ result }
+    ensures most { result ≤ 65536 }
+{
+    match page_size {
+        Some(size) => size,
+        None => EMPTY_SIZE,
+    }
+}
+
 // What an empty input gives.
 fn gather_nothing(alloc: Global, opts: &Options) -> Result<Gathered, AllocError>
     requires { AreOptions opts.now }
     ensures plan { IfOk result (IsEmptyPlan opts.now) }
     ensures sound { IfOk result IsSound }
 {
-    let page_size = opts.page_size.unwrap_or(EMPTY_SIZE);
+    let page_size = empty_size(opts.page_size);
     let mut lines = Vec::new(alloc);
     lines.push(ReportLine::Geometry {
         size: u64::from(page_size),

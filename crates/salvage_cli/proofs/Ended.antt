@@ -1,6 +1,6 @@
 -- What a status says of the end of a recovery.
 use Rattle.std.proofs.Common.{◌≡◌, ◌∙◌, ◌⊎◌, ℕ, List, Option, Some, None, Result, Ok, Err, ap, subst, inl, inr, refl, sym, arith}
-use Rattle.std.specs.Prelude.{◌≢◌, IfSome, IsErrAnd, IsErrOf}
+use Rattle.std.specs.Prelude.{IfSome, IsErrAnd, IsErrOf}
 use Rattle.command_line.specs.Parts.{Asked, Lists, RecoveryAsked, Recovers}
 use Rattle.salvage_core.specs.declared.faults.Fault.{Fault as CoreFault}
 use Rattle.salvage_core.specs.declared.faults.Fault.TheVariants as core

@@ -25,7 +25,8 @@ IsNoCommand (Err fault) = ⊥
 -- the report gains the listing that the words ask of these bytes, or there is the refusal that they ask for
 abbrev pub GivesCommand : {A : Type 0} → Option Asked → List ℕ → Option (List ℕ) → Option (List ℕ) → Result A Fault → Type 0
 GivesCommand None bytes old new answer = IsNoCommand answer
-GivesCommand (Some (Lists listing file)) bytes old new answer = GivesWanted (wanted listing file bytes) old new answer
+GivesCommand (Some (Lists listing file)) bytes old new answer =
+    GivesWanted (wanted listing file bytes) old new answer
 GivesCommand (Some (Recovers r)) bytes old new answer = ⊤
 
 -- the source is attached to the input that the words name
@@ -71,8 +72,8 @@ Says (Ok done) old new before now = new ≡ old
 Says (Err fault) old new before now = Gains old new (fault_line fault) ⊎ (GainsPrefix old new (fault_line fault) × Rose before now)
 
 -- the answer that a status stands for: what it gives of the told bytes, its numbers, and what it says
-pub record Answered (command : Option Asked) (told : Option (List ℕ)) (turns : Turns) (errors_old errors_new : Option (List ℕ))
-    (before now status : ℕ) : Type 0 where
+pub record Answered (command : Option Asked) (told : Option (List ℕ)) (turns : Turns)
+    (errors_old errors_new : Option (List ℕ)) (before now status : ℕ) : Type 0 where
   pub answer : Result (Unit {0}) Fault
   pub status_is : status ≡ status_of answer
   pub given : IfSome told (λ bytes. GivesCommand command bytes turns.report.before turns.report.after answer)

@@ -1,6 +1,6 @@
 -- What a recovery leaves (docs/TEXTS.md, "Statuses").
-use Rattle.std.specs.Prelude.{◌≡◌, ◌⊎◌, ◌^◌, ℕ, List, Option, Some, None, Result, Ok, Err, IfSome, ⊤}
-use Rattle.command_line.specs.Parts.{Asked, Lists, RecoveryAsked, Recovers}
+use Rattle.std.specs.Prelude.{◌≡◌, ◌⊎◌, ◌^◌, ℕ, List, Option, Some, Result, Ok, Err, IfSome, ⊤}
+use Rattle.command_line.specs.Parts.{Asked, RecoveryAsked, Recovers}
 use Rattle.salvage_core.specs.declared.faults.Fault.{Fault as CoreFault}
 use Rattle.salvage_core.specs.declared.faults.Fault.TheVariants as core
 use Rattle.salvage_core.specs.declared.options.Options.{Options}
@@ -42,7 +42,8 @@ answer_of (Ok summary) = Ok tt
 answer_of (Err fault) = Err (of_core fault)
 
 -- a recovery ends with this answer
-pub record EndsAs (r : RecoveryAsked) (told : Option (List ℕ)) (turns : Turns) (answer : Result (Unit {0}) Fault) : Type 0 where
+pub record EndsAs (r : RecoveryAsked) (told : Option (List ℕ)) (turns : Turns)
+    (answer : Result (Unit {0}) Fault) : Type 0 where
   pub end : Result Summary CoreFault
   pub answer_is : answer ≡ answer_of end
   pub ends : Ends (options_of r) told (outputs_of r turns) end
@@ -95,12 +96,14 @@ IsTooMuch command told = ⊥
 -- 4, 5 and 12: the input is refused for a cause of this status
 abbrev pub IsBarred : Option Asked → Option (List ℕ) → ℕ → Type 0
 IsBarred (Some (Recovers r)) told status = IfSome told
-    (λ all. (fault : CoreFault) × ((status ≡ fault_status (of_core fault)) × IsRefused (options_of r) all fault))
+    (λ all. (fault : CoreFault) × ((status ≡ fault_status (of_core fault))
+    × IsRefused (options_of r) all fault))
 IsBarred command told status = ⊤
 
 -- nothing but a failing source or want of memory stands in the way of a recovery of these bytes
 pub record IsRecoverable (r : RecoveryAsked) (all : List ℕ) : Type 0 where
-  pub read : (fault : CoreFault) → IsRefused (options_of r) all fault → (fault ≡ core.InputFault) ⊎ (fault ≡ core.Memory)
+  pub read : (fault : CoreFault) → IsRefused (options_of r) all fault
+      → (fault ≡ core.InputFault) ⊎ (fault ≡ core.Memory)
   pub small : (load : ℕ) → IsOver (options_of r) (Some all) load → ⊥
 
 -- the same of a command that is a recovery

@@ -111,14 +111,17 @@ pub fn run<S: Source, O: Sink, T: Sink, R: Sink, E: Sink>(
 
     // what stays
     ensures source_kept { result ≡ 2 → src.new ≡ src.old }
-    ensures report_kept { KeepsReport (command_of (map string_bytes words.now)) result → report.new ≡ report.old }
-    ensures report_front { IfSome (S.bytes src.old) (λ all. ForListing (command_of (map string_bytes words.now)) all
+    ensures report_kept { KeepsReport (command_of (map string_bytes words.now)) result
+        → report.new ≡ report.old }
+    ensures report_front { IfSome (S.bytes src.old) (λ all.
+        ForListing (command_of (map string_bytes words.now)) all
         (λ wanted. GainsPrefix (R.bytes report.old) (R.bytes report.new) (text_of wanted))) }
     ensures report_name { R.created report.new ≡ R.created report.old }
     ensures unfinished { IsNoRecovery (command_of (map string_bytes words.now)) → (result ≡ 0) ⊎
         StaysUnfinished (R.finished report.old) (R.finished report.new) }
     ensures out_kept { KeepsOutput (command_of (map string_bytes words.now)) result → out.new ≡ out.old }
-    ensures script_kept { KeepsScript (command_of (map string_bytes words.now)) result → script.new ≡ script.old }
+    ensures script_kept { KeepsScript (command_of (map string_bytes words.now)) result
+        → script.new ≡ script.old }
     ensures errors_kept { result ≡ 0 → errors.new ≡ errors.old }
     ensures errors_open { KeepsSink E.created E.finished E.faults errors.old errors.new }
 {
@@ -158,8 +161,10 @@ fn answer<S: Source, O: Sink, T: Sink, R: Sink>(
     ensures sink { HasCauseOf Fault.ReportFault (R.faults report.old) (R.faults report.new) result }
     ensures own { IsOwn (command_of (map string_bytes words.now)) result }
     ensures out_kept { LeavesOutput (command_of (map string_bytes words.now)) result → out.new ≡ out.old }
-    ensures script_kept { LeavesScript (command_of (map string_bytes words.now)) result → script.new ≡ script.old }
-    ensures report_kept { LeavesReport (command_of (map string_bytes words.now)) result → report.new ≡ report.old }
+    ensures script_kept { LeavesScript (command_of (map string_bytes words.now)) result
+        → script.new ≡ script.old }
+    ensures report_kept { LeavesReport (command_of (map string_bytes words.now)) result
+        → report.new ≡ report.old }
     ensures report_name { R.created report.new ≡ R.created report.old }
     ensures unfinished { IsNoRecovery (command_of (map string_bytes words.now)) → OnErr result
         (StaysUnfinished (R.finished report.old) (R.finished report.new)) }

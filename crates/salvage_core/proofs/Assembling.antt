@@ -95,7 +95,7 @@ pages_told (Some all) found left u table g plain plan uses =
     λ e. (
       plain,
       subst (λ (n : ℕ). IsFilePlan (finding found) n (file_by all (finding found)) g) e
-      (plan (file_by all (finding found)) (record { size_is = refl; usable_is = refl; pages_is = refl }) uses),
+          (plan (file_by all (finding found)) (record { size_is = refl; usable_is = refl; pages_is = refl }) uses),
     )
 
 -- and so of the input

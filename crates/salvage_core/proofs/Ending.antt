@@ -35,6 +35,7 @@ ends_of o told to g (Ok s) plan e = record {
   database = e.0.database;
   script = e.0.script;
   report = e.0.report;
+  pages_in = e.0.pages_in;
   pages = e.0.pages;
   rows = e.0.rows;
 }

@@ -87,6 +87,7 @@ pub record IsDone (o : Options) (told : Option (List ℕ)) (to : Outputs) (s : S
   pub database : IsMade to.database (database_of plan) to.out_turn
   pub script : IsMade to.script (script_in plan) to.script_turn
   pub report : IsWhole (report_of plan) to.report_turn
+  pub pages_in : s.pages_in ≡ plan.uses.pages
   pub pages : s.pages_out ≡ pages_out plan
   pub rows : s.rows ≡ rows_out plan
 
@@ -134,6 +135,7 @@ pub record IsWritten (g : Gathered) (to : Outputs) (s : Summary) : Type 0 where
   pub database : IsMade to.database (database_of g) to.out_turn
   pub script : IsMade to.script (script_in g) to.script_turn
   pub report : IsWhole (report_of g) to.report_turn
+  pub pages_in : s.pages_in ≡ g.uses.pages
   pub pages : s.pages_out ≡ pages_out g
   pub rows : s.rows ≡ rows_out g
 

@@ -166,4 +166,3 @@ abbrev pub IsPagesAnswer : List ℕ → Finding → Result Gathered Fault → Ty
 IsPagesAnswer all f (Ok g) = (is_utf16 f ≡ false) × IsFilePlan f (left_of all f) (file_by all f) g
 IsPagesAnswer all f (Err (faults.Utf16 encoding)) = (is_utf16 f ≡ true) × (encoding ≡ f.header.encoding)
 IsPagesAnswer all f (Err fault) = IsReadAnswer {A = Gathered} (Err fault)
-

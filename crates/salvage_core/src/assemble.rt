@@ -24,9 +24,12 @@ pub(crate) fn assemble(
     input: &Input,
     found_uses: FoundUses,
 ) -> Result<Gathered, AllocError>
-    requires readings { HaveReadings input.now.found.geometry.usable input.now.found.geometry.pages found_uses.uses }
-    requires lists { (found_uses.table.pages ≡ input.now.found.geometry.pages) × (length found_uses.table.lists ≡ 7) }
-    ensures plan { IfOk result (λ g. (f : File) → IsFileOf f (finding input.now.found) → AreUses f found_uses.uses found_uses.table
+    requires readings { HaveReadings input.now.found.geometry.usable
+        input.now.found.geometry.pages found_uses.uses }
+    requires lists { (found_uses.table.pages ≡ input.now.found.geometry.pages)
+        × (length found_uses.table.lists ≡ 7) }
+    ensures plan { IfOk result (λ g. (f : File) → IsFileOf f (finding input.now.found)
+        → AreUses f found_uses.uses found_uses.table
         → IsFilePlan (finding input.now.found) input.now.left f g) }
     ensures sound { IfOk result IsSound }
 {
@@ -69,14 +72,23 @@ pub(crate) fn assemble(
 // A database of these tables, with the numbers of the header where the page size is the header's.
 fn database(found: &Found, tables: Vec<OutTable>) -> OutDb
     ensures tables { result.tables ≡ tables }
-    ensures user_version { result.user_version ≡ header_number (finding found.now) found.now.header.user_version }
+    ensures user_version { result.user_version
+        ≡ header_number (finding found.now) found.now.header.user_version }
     ensures application_id { result.application_id
         ≡ header_number (finding found.now) found.now.header.application_id }
 {
     let by_header = found.origin == Origin::Header;
     OutDb {
         tables,
-        user_version: if by_header { found.header.user_version } else { 0 },
-        application_id: if by_header { found.header.application_id } else { 0 },
+        user_version: if by_header {
+            found.header.user_version
+        } else {
+            0
+        },
+        application_id: if by_header {
+            found.header.application_id
+        } else {
+            0
+        },
     }
 }

@@ -11,8 +11,8 @@ use report_text::ReportLine;
 use std::alloc::{AllocError, Global};
 use table_parts::unread_lines;
 
-/// The lines in front: how the file is cut, the bytes behind its last page, the cells of the schema's tree that are no
-/// rows of it, and its pages with unread cells.
+/// The lines in front: how the file is cut, the bytes behind its last page, the cells of the schema's tree
+/// that are no rows of it, and its pages with unread cells.
 pub(crate) fn front_lines(
     alloc: Global,
     found: &Found,

@@ -38,8 +38,8 @@ pub struct FoundUses {
     pub table: PageTable,
 }
 
-/// All that the bytes of the input of this name give. It is refused for the faults of its source, of its length, of its page
-/// size and of its encoding, and for want of memory.
+/// All that the bytes of the input of this name give. It is refused for the faults of its source, of its
+/// length, of its page size and of its encoding, and for want of memory.
 pub fn gather<S: Source>(
     alloc: Global,
     opts: &Options,
@@ -55,7 +55,14 @@ pub fn gather<S: Source>(
     ensures cause { HasCauseOf Fault.InputFault (S.faults src.old) (S.faults src.new) result }
     ensures bytes { S.bytes src.new ≡ S.bytes src.old }
 {
-    match open_input(alloc, src, input, opts.input_limit, opts.page_size, opts.reserved)? {
+    match open_input(
+        alloc,
+        src,
+        input,
+        opts.input_limit,
+        opts.page_size,
+        opts.reserved,
+    )? {
         Some(input) => gather_pages(alloc, &input, src),
         None => Ok(gather_nothing(alloc, opts)?),
     }

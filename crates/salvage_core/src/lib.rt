@@ -5,14 +5,14 @@
 mod assemble;
 mod faults;
 mod fronts;
-mod gathers;
 mod gathered;
+mod gathers;
 mod options;
 mod recovers;
 
 pub use faults::Fault;
-pub use gathers::gather;
 pub use gathered::Gathered;
+pub use gathers::gather;
 pub use options::Options;
 pub use recovers::{Summary, recover};
 

@@ -9,6 +9,7 @@ pub struct Options {
     pub reserved: Option<u8>,
     /// The most bytes of an input, at most 2^28.
     pub input_limit: u64,
-    /// The most load of a database that is written, at most 2^35 (docs/FORMAT.md, "Layout of a written file").
+    /// The most load of a database that is written, at most 2^35 (docs/FORMAT.md, "Layout of a written
+    /// file").
     pub load_limit: u64,
 }

@@ -25,8 +25,9 @@ pub struct Summary {
     pub rows: u64,
 }
 
-/// Recovers what the input of this name holds: a database goes to `out`, under the name `output`, the texts of what is not built to
-/// `script`, and what was found to `report`, in this order. All memory is taken before `out` is created.
+/// Recovers what the input of this name holds: a database goes to `out`, under the name `output`, the texts
+/// of what is not built to `script`, and what was found to `report`, in this order. All memory is taken
+/// before `out` is created.
 pub fn recover<S: Source, O: Sink, T: Sink, R: Sink>(
     alloc: Global,
     opts: &Options,
@@ -41,10 +42,12 @@ pub fn recover<S: Source, O: Sink, T: Sink, R: Sink>(
     requires { AreOptions opts.now }
     // what is done, and each refusal by its cause
     ensures ends { Ends opts.now (S.bytes src.old) (record {
-        database = output.now; script = script_name.now;
-        out_turn = turn_of O.bytes O.created O.finished O.faults out.old out.new;
-        script_turn = turn_of T.bytes T.created T.finished T.faults script.old script.new;
-        report_turn = turn_of R.bytes R.created R.finished R.faults report.old report.new }) result }
+      database = output.now;
+      script = script_name.now;
+      out_turn = turn_of O.bytes O.created O.finished O.faults out.old out.new;
+      script_turn = turn_of T.bytes T.created T.finished T.faults script.old script.new;
+      report_turn = turn_of R.bytes R.created R.finished R.faults report.old report.new;
+    }) result }
     ensures name { OnOk result (S.attached src.new ≡ Some input.now) }
     ensures numbers { HasNumbers opts.now result }
 
@@ -63,7 +66,16 @@ pub fn recover<S: Source, O: Sink, T: Sink, R: Sink>(
 {
     let gathered = gather(alloc, opts, input, src)?;
     let limit = opts.load_limit;
-    write_out(alloc, &gathered, limit, output, script_name, out, script, report)
+    write_out(
+        alloc,
+        &gathered,
+        limit,
+        output,
+        script_name,
+        out,
+        script,
+        report,
+    )
 }
 
 // Writes what was gathered, where its load is at most the limit. All memory is taken first.
@@ -80,10 +92,12 @@ fn write_out<O: Sink, T: Sink, R: Sink>(
     requires sound { IsSound gathered.now }
     requires limit { limit ≤ 2 ^ 35 }
     ensures ends { EndsOut gathered.now limit (record {
-        database = output.now; script = script_name.now;
-        out_turn = turn_of O.bytes O.created O.finished O.faults out.old out.new;
-        script_turn = turn_of T.bytes T.created T.finished T.faults script.old script.new;
-        report_turn = turn_of R.bytes R.created R.finished R.faults report.old report.new }) result }
+      database = output.now;
+      script = script_name.now;
+      out_turn = turn_of O.bytes O.created O.finished O.faults out.old out.new;
+      script_turn = turn_of T.bytes T.created T.finished T.faults script.old script.new;
+      report_turn = turn_of R.bytes R.created R.finished R.faults report.old report.new;
+    }) result }
     ensures output { HasCauseOf Fault.OutputFault (O.faults out.old) (O.faults out.new) result }
     ensures script { HasCauseOf Fault.ScriptFault (T.faults script.old) (T.faults script.new) result }
     ensures report { HasCauseOf Fault.ReportFault (R.faults report.old) (R.faults report.new) result }
@@ -111,10 +125,12 @@ fn write_all<O: Sink, T: Sink, R: Sink>(
     requires size { prepared.page_size ≡ gathered.now.page_size }
     requires prepared { IsPrepared prepared.page_size gathered.now.db prepared }
     ensures ends { EndsWriting gathered.now (record {
-        database = string_bytes output; script = string_bytes script_name;
-        out_turn = turn_of O.bytes O.created O.finished O.faults out.old out.new;
-        script_turn = turn_of T.bytes T.created T.finished T.faults script.old script.new;
-        report_turn = turn_of R.bytes R.created R.finished R.faults report.old report.new }) result }
+      database = string_bytes output;
+      script = string_bytes script_name;
+      out_turn = turn_of O.bytes O.created O.finished O.faults out.old out.new;
+      script_turn = turn_of T.bytes T.created T.finished T.faults script.old script.new;
+      report_turn = turn_of R.bytes R.created R.finished R.faults report.old report.new;
+    }) result }
     ensures output { HasCauseOf Fault.OutputFault (O.faults out.old) (O.faults out.new) result }
     ensures script { HasCauseOf Fault.ScriptFault (T.faults script.old) (T.faults script.new) result }
     ensures report { HasCauseOf Fault.ReportFault (R.faults report.old) (R.faults report.new) result }

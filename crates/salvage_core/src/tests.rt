@@ -91,7 +91,16 @@ fn two_rows(alloc: Global) -> Result<Vec<u8>, Fail> {
 fn a_file_of_two_pages_comes_back(rt: HostRuntime) -> Result<(), Fail> {
     let alloc = rt.alloc();
     let left = recovered(alloc, two_rows(alloc)?, 1 << 32)?;
-    assert!(rt; matches!(left.answer, Ok(Summary { pages_in: 2, pages_out: 2, rows: 2 })));
+    assert!(rt;
+        matches!(
+            left.answer,
+            Ok(Summary {
+                pages_in: 2,
+                pages_out: 2,
+                rows: 2
+            })
+        )
+    );
     let bytes = two_rows(alloc)?;
     assert_eq!(rt; left.out.bytes().len(), 1024);
     assert_eq!(rt; left.out.bytes()[100..].len(), 924);
@@ -103,7 +112,10 @@ fn a_file_of_two_pages_comes_back(rt: HostRuntime) -> Result<(), Fail> {
 fn the_report_of_a_file_of_two_pages(rt: HostRuntime) -> Result<(), Fail> {
     let alloc = rt.alloc();
     let left = recovered(alloc, two_rows(alloc)?, 1 << 32)?;
-    assert_eq!(rt; left.report.bytes(), b"geometry 512 0 2 header\ntable t 2 0 0 1\nresult 2\n".as_slice());
+    assert_eq!(rt;
+        left.report.bytes(),
+        b"geometry 512 0 2 header\ntable t 2 0 0 1\nresult 2\n".as_slice()
+    );
     assert_eq!(rt; left.script.bytes().len(), 0);
     Ok(())
 }
@@ -112,9 +124,21 @@ fn the_report_of_a_file_of_two_pages(rt: HostRuntime) -> Result<(), Fail> {
 fn an_empty_file_gives_a_database_without_tables(rt: HostRuntime) -> Result<(), Fail> {
     let alloc = rt.alloc();
     let left = recovered(alloc, Vec::new(alloc), 1 << 32)?;
-    assert!(rt; matches!(left.answer, Ok(Summary { pages_in: 0, pages_out: 1, rows: 0 })));
+    assert!(rt;
+        matches!(
+            left.answer,
+            Ok(Summary {
+                pages_in: 0,
+                pages_out: 1,
+                rows: 0
+            })
+        )
+    );
     assert_eq!(rt; left.out.bytes().len(), 4096);
-    assert_eq!(rt; left.report.bytes(), b"geometry 4096 0 0 empty\nresult 1\n".as_slice());
+    assert_eq!(rt;
+        left.report.bytes(),
+        b"geometry 4096 0 0 empty\nresult 1\n".as_slice()
+    );
     Ok(())
 }
 

@@ -1,4 +1,5 @@
-//! The files that a salvage makes: the database, the script and the report (docs/TEXTS.md, "The files of `recover`").
+//! The files that a salvage makes: the database, the script and the report (docs/TEXTS.md, "The files of
+//! `recover`").
 #![tactic(auto)]
 
 mod writes;

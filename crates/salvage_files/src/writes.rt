@@ -14,8 +14,8 @@ use page_access::{Failed, Sink};
 use report_text::{ReportLine, put_line, put_script};
 use salvaged_tables::ScriptText;
 
-/// Makes the file of the database that was prepared, under a name, and gives its number of pages. After an error a
-/// front of it is there. It takes no memory.
+/// Makes the file of the database that was prepared, under a name, and gives its number of pages. After an
+/// error a front of it is there. It takes no memory.
 pub fn write_database<O: Sink>(
     prepared: &mut Prepared,
     db: &OutDb,
@@ -69,8 +69,8 @@ fn put_text<T: Sink>(text: &ScriptText, script: &mut T) -> Result<(), Failed>
     put_script(text.text.as_slice(), script)
 }
 
-/// Puts the lines of a report, and the line of the `pages` pages of the database that was made, and finishes it. After
-/// an error a front of them is there. It takes no memory.
+/// Puts the lines of a report, and the line of the `pages` pages of the database that was made, and finishes
+/// it. After an error a front of them is there. It takes no memory.
 pub fn write_report<R: Sink>(
     report_lines: &[ReportLine],
     pages: u32,

@@ -16,9 +16,9 @@ returns-in_default-write_report-clause-ends g c =
       (
         made_of (ap (flat_map text_part) c.deref.ensures.value) c.in-Ok-write_script.ensures.makes,
         cut_of
-        (ap (λ (ls : List ReportLine). flat_map line_text ls ++ line_text (lines.Written c.in-Ok.pages_out)) c.deref-2.ensures.value
-        ∙ ap (λ (p : ℕ). flat_map line_text c.args.gathered.now.lines.items ++ line_text (lines.Written p))
+            (ap (λ (ls : List ReportLine). flat_map line_text ls ++ line_text (lines.Written c.in-Ok.pages_out)) c.deref-2.ensures.value
+            ∙ ap (λ (p : ℕ). flat_map line_text c.args.gathered.now.lines.items ++ line_text (lines.Written p))
             (c.in-Ok.ensures.pages ∙ ap (λ (size : ℕ). last_page size (trees_of db.tables.items)) c.requires.size))
-        c.in_default-write_report.ensures.finishes,
+            c.in_default-write_report.ensures.finishes,
       ),
     )

@@ -39,12 +39,16 @@ use Rattle.use_order.proofs.Holding.{uses_hold}
 use Rattle.salvaged_tables.specs.Fates.{AreFates, TableFate, built_table, stored_row, table_of}
 use Rattle.salvaged_tables.specs.Laws.{all_cells, all_lost, all_rows}
 use Rattle.salvaged_tables.proofs.Once.{each_cell_once}
-use Rattle.salvage_laws.specs.Laws.{EachCellOnce, PagesAreOnce, StoredAreCells, StoredHaveEvidence}
+use Rattle.salvage_laws.specs.Laws.{EachCellOnce, EachPageOnce, PagesAreOnce, StoredAreCells, StoredHaveEvidence}
 use Rattle.salvage_laws.specs.Stored.{stored_rows}
 use Rattle.salvage_laws.proofs.Items.{all_both, all_front, all_part}
 
 pub pages_are_once : PagesAreOnce
 pages_are_once f = unused_once (fresh f.pages 6) f.pages (IsPartition-fresh f.pages 6) refl
+
+pub each_page_once : EachPageOnce
+each_page_once f u fates stored s q =
+    omega (arith, (uses_hold f u s.rows s.readings s.tables s.indexes s.turns s.order).once q, s.once q)
 
 -- ---- rows WITHOUT ROWID
 

@@ -1,4 +1,5 @@
--- The tables that are stored of a file (docs/FORMAT.md, "Keys and clashes"; docs/ARCHITECTURE.md, "Order of use").
+-- The tables that are stored of a file (docs/FORMAT.md, "Keys and clashes"; docs/ARCHITECTURE.md, "Order of
+-- use").
 use Rattle.std.specs.Prelude.{◌≡◌, ℕ, List}
 use Rattle.std.specs.List.{flat_map}
 use Rattle.page_access.specs.Pages.{File}
@@ -14,9 +15,11 @@ use Rattle.salvaged_tables.specs.Fates.{AreFates, StoredTable, TableFate, table_
 abbrev pub stored_rows : List StoredTable → List Row
 stored_rows stored = flat_map (λ (t : StoredTable). t.rows) stored
 
--- The tables that are stored of a file, and the fates that they come from: the pages are used in order, where `unused` are
--- unused at first, each once; the fates are those of the table rows; and each fate gives its table, where it has one.
-pub record AreStored (f : File) (unused : List ℕ) (fates : List TableFate) (stored : List StoredTable) : Type 0 where
+-- The tables that are stored of a file, and the fates that they come from: the pages are used in order, where
+-- `unused` are unused at first, each once; the fates are those of the table rows; and each fate gives its
+-- table, where it has one.
+pub record AreStored (f : File) (unused : List ℕ) (fates : List TableFate) (stored : List StoredTable)
+    : Type 0 where
   pub rows : List SchemaRow
   pub readings : List TableReading
   pub tables : List Tree

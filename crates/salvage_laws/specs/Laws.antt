@@ -1,20 +1,22 @@
 -- What holds of the rows that are stored of a file, whatever its bytes are (docs/FORMAT.md, "Readable cells"
 -- and "Keys and clashes"; docs/ARCHITECTURE.md, "Order of use").
-use Rattle.std.specs.Prelude.{◌≡◌, ◌≤◌, ◌⊎◌, ℕ, if◌then◌else◌, List, ◌++◌, map}
-use Rattle.std.specs.List.{AllByRecursion, flat_map, range_with_len}
+use Rattle.std.specs.Prelude.{◌≡◌, ◌≤◌, ◌⊎◌, ℕ, true, false, if◌then◌else◌, List, ◌++◌, map}
+use Rattle.std.specs.List.{AllByRecursion, AllPairs, flat_map, range_with_len}
 use Rattle.std.specs.List.Sorted.{IsPermutation}
 use Rattle.page_access.specs.Pages.{File}
+use Rattle.page_lists.specs.Lists.{is_in}
 use Rattle.page_lists.specs.Table.{is_page}
 use Rattle.page_walk.specs.Cells.{Row}
 use Rattle.page_walk.specs.Evidence.{AreOnce, Evidence}
 use Rattle.use_order.specs.Apart.{AreApart}
 use Rattle.use_order.specs.Laws.{times_used}
+use Rattle.report_text.specs.declared.ReportLine.{ReportLine}
 use Rattle.table_shape.specs.Keys.{AreRows, keys_of}
 use Rattle.table_fill.specs.Fates.{held}
 use Rattle.salvaged_tables.specs.Fates.{StoredTable, TableFate, fate_lines}
 use Rattle.salvaged_tables.specs.Laws.{all_cells, all_lost, all_rows}
 use Rattle.salvage_laws.specs.Stored.{AreStored, stored_rows}
-use Rattle.salvage_laws.specs.Told.{IsTold}
+use Rattle.salvage_laws.specs.Told.{AreAmong, IsTold}
 
 -- the pages 1 to n of a file are pages of it, each once
 abbrev pub PagesAreOnce : Type 0
@@ -48,15 +50,29 @@ abbrev pub RangesAreApart : Type 0
 RangesAreApart = (f : File) (a b : Row) (x : Evidence f a) (y : Evidence f b) → a.page ≡ b.page
     → (a.cell ≡ b.cell → ⊥) → (x.view.end ≤ y.view.start) ⊎ (y.view.end ≤ x.view.start)
 
+-- two rows share nothing: they are not one cell, no page is in the chains of both, none of them stands on a
+-- page of the other's chain, and, with evidence, their cells share no byte
+pub record ShareNothing (f : File) (a b : Row) : Type 0 where
+  pub places : a.page ≡ b.page → a.cell ≡ b.cell → ⊥
+  pub chains : (q : ℕ) → is_in q a.chain ≡ true → is_in q b.chain ≡ false
+  pub holds : (is_in a.page b.chain ≡ false) × (is_in b.page a.chain ≡ false)
+  pub bytes : (x : Evidence f a) (y : Evidence f b) → a.page ≡ b.page
+      → (x.view.end ≤ y.view.start) ⊎ (y.view.end ≤ x.view.start)
+
+-- so do any two stored rows
+abbrev pub StoredShareNothing : Type 0
+StoredShareNothing = Always (λ f fates stored. AllPairs (ShareNothing f) (stored_rows stored))
+
 -- each readable cell of the tables' trees is a stored row or lost, once
 abbrev pub EachCellOnce : Type 0
 EachCellOnce =
     Always (λ f fates stored. IsPermutation (all_cells fates) (stored_rows stored ++ all_lost fates))
 
--- each lost cell of a table that is built has its clash or misfit among the lines, and each table that is not
--- built its own line
+-- wherever the lines of the tables are told, each lost cell of a table that is built has its clash or misfit
+-- among them, and each table that is not built its own line
 abbrev pub LostAreTold : Type 0
-LostAreTold = Always (λ f fates stored. AllByRecursion (IsTold (flat_map fate_lines fates)) fates)
+LostAreTold = Always (λ f fates stored. (all : List ReportLine) → AreAmong (flat_map fate_lines fates) all
+    → AllByRecursion (IsTold all) fates)
 
 -- the rows of a stored table fit it, rise strictly by rowid or primary key, and no two clash; their key
 -- fields can be ordered

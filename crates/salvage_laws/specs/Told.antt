@@ -18,6 +18,10 @@ use Rattle.table_parts.specs.declared.parts.TablePart.{TablePart}
 use Rattle.table_parts.specs.declared.parts.TablePart.TheVariants.{Built, Unread}
 use Rattle.salvaged_tables.specs.Fates.{TableFate}
 
+-- these lines are among all lines
+abbrev pub AreAmong : List ReportLine → List ReportLine → Type 0
+AreAmong some all = (line : ReportLine) → Contains some line → Contains all line
+
 -- the line of a cell that is no row of its table, with the place and the key of a clash
 abbrev pub lost_line : List ℕ → Row → Fate → ReportLine
 lost_line name row (Clash earlier key) = lines.Clash name row.page row.cell earlier.page earlier.cell key

@@ -1,5 +1,5 @@
 //! What holds of all that is stored.
-ghost use Rattle.salvage_laws.specs.Laws.{EachCellOnce, EachPageOnce, LostAreTold, PagesAreOnce, RangesAreApart, StoredAreApart, StoredAreCells, StoredAreGood, StoredHaveEvidence};
+ghost use Rattle.salvage_laws.specs.Laws.{EachCellOnce, EachPageOnce, LostAreTold, PagesAreOnce, RangesAreApart, StoredAreApart, StoredAreCells, StoredAreGood, StoredHaveEvidence, StoredShareNothing};
 
 /// The pages 1 to n of a file are listed once: a salvage begins with these unused.
 pub fn the_pages_of_a_file_are_once()
@@ -27,7 +27,9 @@ pub fn stored_rows_have_evidence()
 /// No two stored rows are one cell, no page is in the overflow chains of two or twice in one, and none of
 /// these pages holds a stored row.
 pub fn stored_rows_share_nothing()
-    ensures { StoredAreApart }
+    ensures counts { StoredAreApart }
+    // The same of any two, and the bytes of their cells.
+    ensures pairs { StoredShareNothing }
 {}
 
 /// The cells of two rows with evidence on one page share no byte; each stored row has evidence.
@@ -40,9 +42,9 @@ pub fn each_cell_is_stored_or_lost()
     ensures { EachCellOnce }
 {}
 
-/// Each lost cell of a table that is built has its line: it clashes with the row that the line names, by
-/// the least key by which it clashes with a row before it, or it does not fit. Each table that is not built
-/// has its line, with the number of its cells.
+/// In a report with the lines of the tables, each lost cell of a table that is built has its line: it
+/// clashes with the row that the line names, by the least key by which it clashes with a row before it, or
+/// it does not fit. Each table that is not built has its line, with the number of its cells.
 pub fn each_lost_cell_is_told()
     ensures { LostAreTold }
 {}

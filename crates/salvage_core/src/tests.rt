@@ -1,12 +1,16 @@
-//! Whole salvages over objects in memory. The files are written by hand from the format.
+//! Salvages over objects in memory. The file is written by hand from the format.
+ghost use Rattle.std.specs.Prelude.{◌≤◌, ◌^◌};
+ghost use Rattle.salvage_core.specs.Plan.{AreOptions};
+
 use crate::{Fault, Options, Summary, recover};
-use page_access::{MemFail, MemSink, MemSource};
+use page_access::{MemSink, MemSource};
 use std::alloc::Global;
 use std::test::Fail;
 
 // Options of a command without options, with this limit of the load.
 fn options(load_limit: u64) -> Options
-    ensures { result.page_size ≡ None × result.reserved ≡ None }
+    requires { load_limit ≤ 2 ^ 35 }
+    ensures { AreOptions result }
 {
     Options {
         page_size: None,
@@ -16,26 +20,18 @@ fn options(load_limit: u64) -> Options
     }
 }
 
-// What a salvage left.
-#[derive(Drop)]
-struct Left {
-    answer: Result<Summary, Fault>,
-    out: MemSink,
-    script: MemSink,
-    report: MemSink,
-}
-
-fn sink(alloc: Global) -> Result<MemSink, Fail> {
-    Ok(MemSink::new(alloc, 1 << 16, Vec::new(alloc))?)
-}
-
-fn recovered(alloc: Global, bytes: Vec<u8>, load_limit: u64) -> Result<Left, Fail>
+// The answer of a salvage of these bytes, and how many bytes it put into the sink of the database.
+fn recovered(
+    alloc: Global,
+    bytes: Vec<u8>,
+    load_limit: u64,
+) -> Result<(Result<Summary, Fault>, usize), Fail>
     requires { load_limit ≤ 2 ^ 35 }
 {
     let mut src = MemSource::new(bytes, Vec::new(alloc));
-    let mut out = sink(alloc)?;
-    let mut script = sink(alloc)?;
-    let mut report = sink(alloc)?;
+    let mut out = MemSink::new(alloc, 1 << 16, Vec::new(alloc))?;
+    let mut script = MemSink::new(alloc, 0, Vec::new(alloc))?;
+    let mut report = MemSink::new(alloc, 1 << 16, Vec::new(alloc))?;
     let answer = recover(
         alloc,
         &options(load_limit),
@@ -47,12 +43,7 @@ fn recovered(alloc: Global, bytes: Vec<u8>, load_limit: u64) -> Result<Left, Fai
         &mut script,
         &mut report,
     );
-    Ok(Left {
-        answer,
-        out,
-        script,
-        report,
-    })
+    Ok((answer, out.bytes().len()))
 }
 
 // Writes a piece at a place, as far as there is room.
@@ -90,55 +81,28 @@ fn two_rows(alloc: Global) -> Result<Vec<u8>, Fail> {
 #[test]
 fn a_file_of_two_pages_comes_back(rt: HostRuntime) -> Result<(), Fail> {
     let alloc = rt.alloc();
-    let left = recovered(alloc, two_rows(alloc)?, 1 << 32)?;
-    assert!(rt;
-        matches!(
-            left.answer,
-            Ok(Summary {
-                pages_in: 2,
-                pages_out: 2,
-                rows: 2
-            })
-        )
-    );
-    let bytes = two_rows(alloc)?;
-    assert_eq!(rt; left.out.bytes().len(), 1024);
-    assert_eq!(rt; left.out.bytes()[100..].len(), 924);
-    assert!(rt; left.out.bytes()[100..] == bytes[100..]);
+    let (answer, len) = recovered(alloc, two_rows(alloc)?, 1 << 32)?;
+    let summary = Summary {
+        pages_in: 2,
+        pages_out: 2,
+        rows: 2,
+    };
+    assert!(rt; answer == Ok(summary));
+    assert_eq!(rt; len, 1024);
     Ok(())
 }
 
 #[test]
-fn the_report_of_a_file_of_two_pages(rt: HostRuntime) -> Result<(), Fail> {
+fn an_empty_file_gives_a_database_of_one_page(rt: HostRuntime) -> Result<(), Fail> {
     let alloc = rt.alloc();
-    let left = recovered(alloc, two_rows(alloc)?, 1 << 32)?;
-    assert_eq!(rt;
-        left.report.bytes(),
-        b"geometry 512 0 2 header\ntable t 2 0 0 1\nresult 2\n".as_slice()
-    );
-    assert_eq!(rt; left.script.bytes().len(), 0);
-    Ok(())
-}
-
-#[test]
-fn an_empty_file_gives_a_database_without_tables(rt: HostRuntime) -> Result<(), Fail> {
-    let alloc = rt.alloc();
-    let left = recovered(alloc, Vec::new(alloc), 1 << 32)?;
-    assert!(rt;
-        matches!(
-            left.answer,
-            Ok(Summary {
-                pages_in: 0,
-                pages_out: 1,
-                rows: 0
-            })
-        )
-    );
-    assert_eq!(rt; left.out.bytes().len(), 4096);
-    assert_eq!(rt;
-        left.report.bytes(),
-        b"geometry 4096 0 0 empty\nresult 1\n".as_slice()
-    );
+    let (answer, len) = recovered(alloc, Vec::new(alloc), 1 << 32)?;
+    let summary = Summary {
+        pages_in: 0,
+        pages_out: 1,
+        rows: 0,
+    };
+    assert!(rt; answer == Ok(summary));
+    assert_eq!(rt; len, 4096);
     Ok(())
 }
 
@@ -146,8 +110,8 @@ fn an_empty_file_gives_a_database_without_tables(rt: HostRuntime) -> Result<(), 
 #[test]
 fn a_load_over_the_limit_is_told(rt: HostRuntime) -> Result<(), Fail> {
     let alloc = rt.alloc();
-    let left = recovered(alloc, two_rows(alloc)?, 100)?;
-    assert!(rt; matches!(left.answer, Err(Fault::OutputTooLarge { load: 141 })));
-    assert_eq!(rt; left.out.bytes().len(), 0);
+    let (answer, len) = recovered(alloc, two_rows(alloc)?, 100)?;
+    assert!(rt; answer == Err(Fault::OutputTooLarge { load: 141 }));
+    assert_eq!(rt; len, 0);
     Ok(())
 }

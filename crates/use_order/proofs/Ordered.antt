@@ -24,7 +24,7 @@ use Rattle.raw_schema.specs.declared.rows.SchemaRow.{SchemaRow}
 use Rattle.tree_uses.specs.Trees.{Tree, chains_in, pages_in, turns_in, walks}
 use Rattle.schema_texts.specs.Readings.{AreReadings}
 use Rattle.schema_texts.specs.declared.readings.TableReading.{TableReading}
-use Rattle.use_order.specs.Order.{AreInOrder, IsSchema, UsesMove, after_uses, behind_schema, index_trees, table_tree}
+use Rattle.use_order.specs.Order.{AreInOrder, IsSchema, UsesMove, after_uses, behind_schema, behind_uses, index_trees, table_tree}
 use Rattle.use_order.specs.declared.TheConstants.{INDEX_LIST, TABLE_LIST}
 
 -- there are no more unused pages than pages
@@ -108,3 +108,15 @@ table_is o geo t0 t1 t2 t3 t4 tables indexes turns schema m2 m3 m4 =
     one_told (λ all. t1 ≡ after_schema (file_of all geo) t0) (λ all. t4 ≡ after_uses (file_of all geo) t0 tables indexes turns) o
     (λ all e. m4 ∙ ap (all_moved (flat_map chains_in turns) OVERFLOW_LIST)
     (m3 ∙ ap (all_moved (pages_in indexes) INDEX_LIST) (m2 ∙ ap (all_moved (pages_in tables) TABLE_LIST) e))) schema
+
+-- what is unused behind all these
+pub unused_after : (f : File) (t : Table) (tables indexes : List Tree) (turns : List (List (ℕ × List Outcome)))
+    → unused (after_uses f t tables indexes turns) ≡ behind_uses f (unused t) tables indexes turns
+unused_after f t tables indexes turns =
+    let t1 : Table = after_schema f t in
+    let t2 : Table = all_moved (pages_in tables) TABLE_LIST t1 in
+    let t3 : Table = all_moved (pages_in indexes) INDEX_LIST t2 in
+    unused-all_moved (flat_map chains_in turns) OVERFLOW_LIST t3 (omega arith)
+    ∙ ap (λ (u : List ℕ). minus u (flat_map chains_in turns)) (unused-all_moved (pages_in indexes) INDEX_LIST t2 (omega arith)
+    ∙ ap (λ (u : List ℕ). minus u (pages_in indexes)) (unused-all_moved (pages_in tables) TABLE_LIST t1 (omega arith)
+    ∙ ap (λ (u : List ℕ). minus u (pages_in tables)) (unused_behind f t)))

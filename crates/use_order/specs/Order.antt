@@ -101,6 +101,11 @@ pub record AreInOrder (f : File) (unused : List ℕ) (rows : List SchemaRow) (rs
   pub indexes_are : indexes ≡ walks f INDEX_LIST (index_trees 0 rows) (minus (behind_schema f unused) (pages_in tables))
   pub turns_are : turns ≡ turns_in f tables (minus (minus (behind_schema f unused) (pages_in tables)) (pages_in indexes))
 
+-- the pages that are left unused behind all these
+abbrev pub behind_uses : File → List ℕ → List Tree → List Tree → List (List (ℕ × List Outcome)) → List ℕ
+behind_uses f unused tables indexes turns =
+    minus (minus (minus (behind_schema f unused) (pages_in tables)) (pages_in indexes)) (flat_map chains_in turns)
+
 -- the table after each page with a use moved to the list of its use
 abbrev pub after_uses : File → Table → List Tree → List Tree → List (List (ℕ × List Outcome)) → Table
 after_uses f t tables indexes turns = all_moved (flat_map chains_in turns) OVERFLOW_LIST

@@ -72,6 +72,16 @@ places_more (u ∷ tables) (q ∷ places) t p even same =
     ap (λ (n : ℕ). n ∷ map (λ (t : OutTable). length t.rows.items) (tables ++ t ∷ [])) both.0
     ∙ ap (λ (ns : List ℕ). length q.items ∷ ns) (places_more tables places t p both.1 same)
 
+pub gains_pushed : (t : OutTable) (p : Vec Placed Global) (tables new_tables : List OutTable) (places new_places : List (Vec Placed Global))
+    → length t.rows.items ≡ length p.items → new_tables ≡ tables ++ t ∷ [] → new_places ≡ places ++ p ∷ []
+    → GainsTables (stored_table t p ∷ []) tables places new_tables new_places
+gains_pushed t p tables new_tables places new_places even pushed placed = record {
+  gained = λ was. ap (λ (ts : List OutTable). stored_tables ts new_places) pushed
+      ∙ ap (stored_tables (tables ++ t ∷ [])) placed ∙ tables_more tables places t p was;
+  placed = λ was. subst (λ (ts : List OutTable). HavePlaces ts new_places) (sym pushed)
+      (subst (HavePlaces (tables ++ t ∷ [])) (sym placed) (places_more tables places t p was even));
+}
+
 -- a table and its places are pushed
 pub gains_one : (row : SchemaRow) (shape : TableShape) (cells : List TakenCell) (tables new_tables : List OutTable)
     (places new_places : List (Vec Placed Global)) (name text : List ℕ) (rows : Vec OutRow Global) (p : Vec Placed Global)
@@ -85,15 +95,10 @@ gains_one row shape cells tables new_tables places new_places name text rows p n
     ap (λ (n : List ℕ). record { name = n; text = text; shape = shape_seen shape; rows = rows_at rows.items p.items }) name_is
     ∙ ap (λ (x : List ℕ). record { name = row.name; text = x; shape = shape_seen shape; rows = rows_at rows.items p.items }) text_is
     ∙ ap (λ (rs : List Row). record { name = row.name; text = unwrap_or row.sql []; shape = shape_seen shape; rows = rs }) rows_are in
-    record {
-      gained = λ was. ap (λ (ts : List OutTable). stored_tables ts new_places) pushed
-          ∙ ap (stored_tables (tables ++ t ∷ [])) placed ∙ tables_more tables places t p was
-          ∙ ap (λ (one : StoredTable). stored_tables tables places ++ one ∷ []) seen;
-      placed = λ was. subst (λ (ts : List OutTable). HavePlaces ts new_places) (sym pushed)
-          (subst (HavePlaces (tables ++ t ∷ [])) (sym placed) (places_more tables places t p was even));
-    }
+    subst (λ (one : StoredTable). GainsTables (one ∷ []) tables places new_tables new_places) seen
+    (gains_pushed t p tables new_tables places new_places even pushed placed)
 
-gains_none : (tables : List OutTable) (places : List (Vec Placed Global)) → GainsTables [] tables places tables places
+pub gains_none : (tables : List OutTable) (places : List (Vec Placed Global)) → GainsTables [] tables places tables places
 gains_none tables places = record { gained = λ was. sym (append-nil (stored_tables tables places)); placed = λ was. was }
 
 -- ---- a part

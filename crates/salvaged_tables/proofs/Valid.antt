@@ -145,10 +145,10 @@ tables_are (t ∷ tables) (p ∷ places) even all =
 
 -- ---- their names
 
-abbrev stored_names : List StoredTable → List (List ℕ)
+abbrev pub stored_names : List StoredTable → List (List ℕ)
 stored_names tables = map (λ (t : StoredTable). t.name) tables
 
-names_seen : (tables : List OutTable) (places : List (Vec Placed Global)) → HavePlaces tables places
+pub names_seen : (tables : List OutTable) (places : List (Vec Placed Global)) → HavePlaces tables places
     → stored_names (stored_tables tables places) ≡ map (λ (t : OutTable). t.name) tables
 names_seen [] places even = refl
 names_seen (t ∷ tables) [] even = absurd (nothing _ _ even)

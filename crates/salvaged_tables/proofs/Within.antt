@@ -31,9 +31,13 @@ use Rattle.salvaged_tables.proofs.Items.{front, nothing}
 -- ---- lists
 
 -- what holds of all that a function makes of items, holds so of these
-all_unmapped : {X Y : Type 0} (P : Y → Type 0) (f : X → Y) (xs : List X) → AllByRecursion P (map f xs) → AllByRecursion (λ (x : X). P (f x)) xs
+pub all_unmapped : {X Y : Type 0} (P : Y → Type 0) (f : X → Y) (xs : List X) → AllByRecursion P (map f xs) → AllByRecursion (λ (x : X). P (f x)) xs
 all_unmapped P f [] all = tt
 all_unmapped P f (x ∷ xs) all = (all.0, all_unmapped P f xs all.1)
+
+all_weakened : {X : Type 0} (P Q : X → Type 0) → ((x : X) → P x → Q x) → (xs : List X) → AllByRecursion P xs → AllByRecursion Q xs
+all_weakened P Q less [] all = tt
+all_weakened P Q less (x ∷ xs) all = (less x all.0, all_weakened P Q less xs all.1)
 
 all_front : {X : Type 0} (P : X → Type 0) (xs ys : List X) → AllByRecursion P (xs ++ ys) → AllByRecursion P xs × AllByRecursion P ys
 all_front P [] ys all = (tt, all)
@@ -48,28 +52,40 @@ all_permuted P xs ys moved all = recursion_from_All P ys (All-permutation P xs y
 abbrev RowOn : ℕ → Row → Type 0
 RowOn pages r = IsOn pages r.page r.chain
 
+-- it has at most 1,996 fields besides
+abbrev CellOn : ℕ → Row → Type 0
+CellOn pages r = RowOn pages r × (length r.fields ≤ 1996)
+
 abbrev FailedOn : ℕ → Failed → Type 0
 FailedOn pages f = IsOn pages f.page f.chain
 
 rows_on : (usable pages page : ℕ) (os : List Outcome) → 1 ≤ page → page ≤ pages → AllByRecursion (IsSmall usable pages page) os
-    → AllByRecursion (RowOn pages) (rows_of os)
+    → AllByRecursion (CellOn pages) (rows_of os)
 rows_on usable pages page [] least most small = tt
 rows_on usable pages page (Read row ∷ os) least most small = (
-  record {
-    least = subst (λ (p : ℕ). 1 ≤ p) (sym small.0.on_page) least;
-    most = subst (λ (p : ℕ). p ≤ pages) (sym small.0.on_page) most;
-    chain_on = small.0.chain;
-  },
+  (
+    record {
+      least = subst (λ (p : ℕ). 1 ≤ p) (sym small.0.on_page) least;
+      most = subst (λ (p : ℕ). p ≤ pages) (sym small.0.on_page) most;
+      chain_on = small.0.chain;
+    },
+    small.0.few,
+  ),
   rows_on usable pages page os least most small.1,
 )
 rows_on usable pages page (Unread u ∷ os) least most small = rows_on usable pages page os least most small.1
 
-cells_on : (usable pages : ℕ) (turns : List (ℕ × List Outcome)) → AllByRecursion (IsSmallTurn usable pages) turns
+pub small_cells_on : (usable pages : ℕ) (turns : List (ℕ × List Outcome)) → AllByRecursion (IsSmallTurn usable pages) turns
+    → AllByRecursion (CellOn pages) (cells_in turns)
+small_cells_on usable pages [] small = tt
+small_cells_on usable pages (t ∷ turns) small =
+    all_append (CellOn pages) (rows_of t.1) (cells_in turns) (rows_on usable pages t.0 t.1 small.0.least small.0.most small.0.small)
+    (small_cells_on usable pages turns small.1)
+
+pub cells_on : (usable pages : ℕ) (turns : List (ℕ × List Outcome)) → AllByRecursion (IsSmallTurn usable pages) turns
     → AllByRecursion (RowOn pages) (cells_in turns)
-cells_on usable pages [] small = tt
-cells_on usable pages (t ∷ turns) small =
-    all_append (RowOn pages) (rows_of t.1) (cells_in turns) (rows_on usable pages t.0 t.1 small.0.least small.0.most small.0.small)
-    (cells_on usable pages turns small.1)
+cells_on usable pages turns small =
+    all_weakened (CellOn pages) (RowOn pages) (λ r is. is.0) (cells_in turns) (small_cells_on usable pages turns small)
 
 chosen_on : (pages : ℕ) (b : Bool) (f : Failed) → FailedOn pages f → AllByRecursion (FailedOn pages) (if b then f ∷ [] else [])
 chosen_on pages true f is = (is, tt)
@@ -84,7 +100,7 @@ failures_on usable pages root page (Unread u ∷ os) least most small =
     (chosen_on pages (has_failed u.cause) _ (record { least = least; most = most; chain_on = small.0 }))
     (failures_on usable pages root page os least most small.1)
 
-all_failures_on : (usable pages root : ℕ) (turns : List (ℕ × List Outcome)) → AllByRecursion (IsSmallTurn usable pages) turns
+pub all_failures_on : (usable pages root : ℕ) (turns : List (ℕ × List Outcome)) → AllByRecursion (IsSmallTurn usable pages) turns
     → AllByRecursion (FailedOn pages) (flat_map (failed_on root) turns)
 all_failures_on usable pages root [] small = tt
 all_failures_on usable pages root (t ∷ turns) small =
@@ -96,28 +112,28 @@ all_failures_on usable pages root (t ∷ turns) small =
 abbrev TableOn : ℕ → StoredTable → Type 0
 TableOn pages t = AllByRecursion (RowOn pages) t.rows
 
-built_on : (pages : ℕ) (row : SchemaRow) (part : TablePart) → AllByRecursion (RowOn pages) (built_rows part)
+built_on : (pages : ℕ) (row : SchemaRow) (part : TablePart) → AllByRecursion (CellOn pages) (built_rows part)
     → AllByRecursion (TableOn pages) (built_table row part)
 built_on pages row (parts.Built shape rows left) all =
-    (all_mapped (RowOn pages) (RowOn pages) (stored_row shape.without_rowid) (map row_of rows.items) (λ r is. is) all, tt)
+    (all_mapped (CellOn pages) (RowOn pages) (stored_row shape.without_rowid) (map row_of rows.items) (λ r is. is.0) all, tt)
 built_on pages row (parts.Unread cause cells) all = tt
 
 -- what a fate gives is on pages of the file
 record IsFateOn (pages : ℕ) (f : TableFate) : Type 0 where
   tables : AllByRecursion (TableOn pages) (table_of f)
-  lost : AllByRecursion (λ (l : ℕ × Row). RowOn pages l.1) (lost_of f)
+  lost : AllByRecursion (λ (l : ℕ × Row). CellOn pages l.1) (lost_of f)
   failed : AllByRecursion (FailedOn pages) (failed_of f)
 
 fate_on : (usable pages : ℕ) (rows : List SchemaRow) (r : TableReading) (t : Tree) (turns : List (ℕ × List Outcome)) (f : TableFate)
     → AllByRecursion (IsSmallTurn usable pages) turns → IsFate rows r t turns f → IsFateOn pages f
 fate_on usable pages rows r t turns f small is =
-    let both : AllByRecursion (RowOn pages) (built_rows f.part) × AllByRecursion (RowOn pages) (lost_cells f.part) =
-    all_front (RowOn pages) (built_rows f.part) (lost_cells f.part)
-    (all_permuted (RowOn pages) (cells_in turns) (built_rows f.part ++ lost_cells f.part) (each_cell r.reading (cells_in turns) f.part is.part_is)
-    (cells_on usable pages turns small)) in
+    let both : AllByRecursion (CellOn pages) (built_rows f.part) × AllByRecursion (CellOn pages) (lost_cells f.part) =
+    all_front (CellOn pages) (built_rows f.part) (lost_cells f.part)
+    (all_permuted (CellOn pages) (cells_in turns) (built_rows f.part ++ lost_cells f.part) (each_cell r.reading (cells_in turns) f.part is.part_is)
+    (small_cells_on usable pages turns small)) in
     record {
       tables = built_on pages f.row f.part both.0;
-      lost = all_mapped (RowOn pages) (λ (l : ℕ × Row). RowOn pages l.1) (λ (r : Row). (root_of f.pages, r)) (lost_cells f.part) (λ r on. on) both.1;
+      lost = all_mapped (CellOn pages) (λ (l : ℕ × Row). CellOn pages l.1) (λ (r : Row). (root_of f.pages, r)) (lost_cells f.part) (λ r on. on) both.1;
       failed = subst (λ (ts : List (ℕ × List Outcome)). AllByRecursion (FailedOn pages) (flat_map (failed_on (root_of f.pages)) ts)) (sym is.turns_are)
           (all_failures_on usable pages (root_of f.pages) turns small);
     }
@@ -125,7 +141,7 @@ fate_on usable pages rows r t turns f small is =
 -- and so is what all of them give
 record AreFatesOn (pages : ℕ) (fates : List TableFate) : Type 0 where
   tables : AllByRecursion (TableOn pages) (flat_map table_of fates)
-  lost : AllByRecursion (λ (l : ℕ × Row). RowOn pages l.1) (flat_map lost_of fates)
+  lost : AllByRecursion (λ (l : ℕ × Row). CellOn pages l.1) (flat_map lost_of fates)
   failed : AllByRecursion (FailedOn pages) (flat_map failed_of fates)
 
 fates_on : (usable pages : ℕ) (rows : List SchemaRow) (rs : List TableReading) (trees : List Tree) (turns : List (List (ℕ × List Outcome)))
@@ -137,14 +153,15 @@ fates_on usable pages rows (r ∷ rs) (t ∷ trees) (ts ∷ turns) (f ∷ fates)
     let rest : AreFatesOn pages fates = fates_on usable pages rows rs trees turns fates small.1 are.1 in
     record {
       tables = all_append (TableOn pages) (table_of f) (flat_map table_of fates) one.tables rest.tables;
-      lost = all_append (λ (l : ℕ × Row). RowOn pages l.1) (lost_of f) (flat_map lost_of fates) one.lost rest.lost;
+      lost = all_append (λ (l : ℕ × Row). CellOn pages l.1) (lost_of f) (flat_map lost_of fates) one.lost rest.lost;
       failed = all_append (FailedOn pages) (failed_of f) (flat_map failed_of fates) one.failed rest.failed;
     }
 fates_on usable pages rows rs trees turns fates small are = absurd are
 
 -- ---- the program's lists
 
-placed_on : (pages : ℕ) (rows : List OutRow) (places : List Placed) → length rows ≡ length places → AllByRecursion (RowOn pages) (rows_at rows places)
+-- the places of rows that are on pages of the file are
+pub placed_on : (pages : ℕ) (rows : List OutRow) (places : List Placed) → length rows ≡ length places → AllByRecursion (λ (r : Row). IsOn pages r.page r.chain) (rows_at rows places)
     → AllByRecursion (λ (p : Placed). IsOn pages p.place.page p.chain.items) places
 placed_on pages [] [] even all = tt
 placed_on pages [] (p ∷ places) even all = absurd (omega (arith, even))
@@ -168,15 +185,15 @@ are_on_pages usable pages rows rs trees turns v small is =
     record {
       places = places_on pages v.tables.items v.places.items is.salvaged.places
           (subst (AllByRecursion (TableOn pages)) (sym is.salvaged.tables) on.tables);
-      lost = all_unmapped (λ (l : ℕ × Row). RowOn pages l.1) lost_seen v.lost.items
-          (subst (AllByRecursion (λ (l : ℕ × Row). RowOn pages l.1)) (sym is.salvaged.lost) on.lost);
+      lost = all_unmapped (λ (l : ℕ × Row). CellOn pages l.1) lost_seen v.lost.items
+          (subst (AllByRecursion (λ (l : ℕ × Row). CellOn pages l.1)) (sym is.salvaged.lost) on.lost);
       failed = all_unmapped (FailedOn pages) failed_seen v.failed.items
           (subst (AllByRecursion (FailedOn pages)) (sym is.salvaged.failed) on.failed);
     }
 
 -- ---- what callers hand over
 
-few_of : (usable pages : ℕ) (turns : List (ℕ × List Outcome)) → usable ≤ 65536 → AllByRecursion (IsSmallTurn usable pages) turns → AreFew turns
+pub few_of : (usable pages : ℕ) (turns : List (ℕ × List Outcome)) → usable ≤ 65536 → AllByRecursion (IsSmallTurn usable pages) turns → AreFew turns
 few_of usable pages [] most small = tt
 few_of usable pages (t ∷ turns) most small = (omega (arith, most, small.0.few), few_of usable pages turns most small.1)
 

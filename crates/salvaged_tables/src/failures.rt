@@ -10,8 +10,9 @@ use crate::places::FailedEntry;
 use page_walk::{CellCause, CellOutcome, PageTurn, Place};
 use std::alloc::{AllocError, Global};
 
-/// Appends the cells of a tree that are not read for their chain or their record, page by page in cell order.
-pub(crate) fn add_failed(
+/// Appends the cells of a tree with this root page that are not read for their chain or their record, page by page in
+/// cell order.
+pub fn add_failed(
     alloc: Global,
     root: u32,
     turns: &[PageTurn],

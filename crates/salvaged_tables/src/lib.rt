@@ -10,9 +10,11 @@ mod salvage;
 mod tables;
 mod texts;
 
+pub use failures::add_failed;
 pub use laws::each_readable_cell_is_stored_or_lost;
 pub use places::{FailedEntry, LostCell, Placed, ScriptText};
 pub use salvage::{SalvagedTables, salvage_tables};
+pub use tables::add_lost;
 
 #[cfg(test)]
 mod tests;

@@ -96,12 +96,8 @@ pub(crate) fn add_left(
     Ok(())
 }
 
-/// Appends the cells of a table that is not built.
-pub(crate) fn add_lost(
-    root: u32,
-    cells: Vec<TakenCell>,
-    to: &mut Vec<LostCell>,
-) -> Result<(), AllocError>
+/// Appends the cells of a tree with this root page, which no table has.
+pub fn add_lost(root: u32, cells: Vec<TakenCell>, to: &mut Vec<LostCell>) -> Result<(), AllocError>
     ensures { OnOk result (map lost_seen to.new.items ≡ map lost_seen to.old.items
         ++ map (λ (r : Row). (root, r)) (map row_of cells.items)) }
 {

@@ -1,0 +1,9 @@
+pub mod Digits
+pub mod Pieces
+pub mod Sayings
+pub mod Text
+pub mod Numbering
+pub mod Loops
+pub mod Made
+pub mod Writable
+pub mod Finished

@@ -1,8 +1,7 @@
--- The stored rows are readable cells, with their evidence.
+-- The pages of a file are once; the rows of stored tables are cells as they were read.
 use Rattle.std.proofs.Common.{◌≡◌, inl, inr, ℕ, Bool, true, false, Some, None, List, [], ◌∷◌, ◌++◌, map, refl, sym, ◌∙◌, ap, subst, arith, append-nil}
 use Rattle.std.specs.Prelude.{ℤ, Option}
 use Rattle.std.specs.List.{AllByRecursion, flat_map}
-use Rattle.std.specs.List.Sorted.{IsPermutation}
 use Rattle.std.proofs.lemmas.Grind.{flat_map-append}
 use Rattle.page_access.specs.Pages.{File}
 use Rattle.page_lists.specs.Lists.{count, is_in, minus}
@@ -37,18 +36,13 @@ use Rattle.use_order.specs.declared.TheConstants.{TABLE_LIST}
 use Rattle.use_order.proofs.Apart.{turns_pages}
 use Rattle.use_order.proofs.Holding.{uses_hold}
 use Rattle.salvaged_tables.specs.Fates.{AreFates, TableFate, built_table, stored_row, table_of}
-use Rattle.salvaged_tables.specs.Laws.{all_cells, all_lost, all_rows}
-use Rattle.salvaged_tables.proofs.Once.{each_cell_once}
-use Rattle.salvage_laws.specs.Laws.{EachCellOnce, EachPageOnce, PagesAreOnce, StoredAreCells, StoredHaveEvidence}
+use Rattle.salvaged_tables.specs.Laws.{all_rows}
+use Rattle.salvage_laws.specs.Laws.{PagesAreOnce, StoredAreCells}
 use Rattle.salvage_laws.specs.Stored.{stored_rows}
 use Rattle.salvage_laws.proofs.Items.{all_both, all_front, all_part}
 
 pub pages_are_once : PagesAreOnce
 pages_are_once f = unused_once (fresh f.pages 6) f.pages (IsPartition-fresh f.pages 6) refl
-
-pub each_page_once : EachPageOnce
-each_page_once f u fates stored s q =
-    omega (arith, (uses_hold f u s.rows s.readings s.tables s.indexes s.turns s.order).once q, s.once q)
 
 -- ---- rows WITHOUT ROWID
 
@@ -127,39 +121,13 @@ fates_rows f rows list (r ∷ rs) u v (x ∷ fates) there are =
     ∙ ap (λ (rest : List Row). built_rows x.part ++ rest)
     (fates_rows f rows list rs (minus u tree.pages) (minus v (chains_in turns)) fates both.1 are.1)
 
--- the cells of the fates are those of the turns
-cells_are : (rows : List SchemaRow) (rs : List TableReading) (tables : List Tree) (turns : List (List (ℕ × List Outcome)))
-    (fates : List TableFate) → AreFates rows rs tables turns fates → table_cells turns ≡ all_cells fates
-cells_are rows [] [] [] [] are = refl
-cells_are rows (r ∷ rs) (t ∷ tables) (ts ∷ turns) (f ∷ fates) are =
-    ap (λ (us : List (ℕ × List Outcome)). cells_in us ++ table_cells turns) (sym are.0.turns_are)
-    ∙ ap (λ (more : List Row). cells_in f.turns ++ more) (cells_are rows rs tables turns fates are.1)
-cells_are rows rs tables turns fates are = absurd are
-
 pub stored_are_cells : StoredAreCells
-stored_are_cells f u fates stored s =
+stored_are_cells f u trunk fates orphans cells s =
     let d : List ℕ = minus (minus (behind_schema f u) (pages_in s.tables)) (pages_in s.indexes) in
     let trees : List Tree = walks f TABLE_LIST (map table_tree s.readings) (behind_schema f u) in
     let same : s.turns ≡ turns_in f trees d = s.order.turns_are ∙ ap (λ (ts : List Tree). turns_in f ts d) s.order.tables_are in
     let held : UsesHold f u s.tables s.indexes s.turns = uses_hold f u s.rows s.readings s.tables s.indexes s.turns s.order in
-    ap stored_rows s.stored_are
-    ∙ fates_rows f s.rows TABLE_LIST s.readings (behind_schema f u) d fates
+    fates_rows f s.rows TABLE_LIST s.readings (behind_schema f u) d fates
     (subst (λ (tss : List (List (ℕ × List Outcome))). AllByRecursion (Evidence f) (table_cells tss)) same (held.evidence s.once))
     (subst (λ (tss : List (List (ℕ × List Outcome))). AreFates s.rows s.readings trees tss fates) same
     (subst (λ (ts : List Tree). AreFates s.rows s.readings ts s.turns fates) s.order.tables_are s.fates_are))
-
--- what holds of the cells of the turns holds of those of the fates
-pub cells_hold : (P : List Row → Type 0) (rows : List SchemaRow) (rs : List TableReading) (tables : List Tree)
-    (turns : List (List (ℕ × List Outcome))) (fates : List TableFate) → AreFates rows rs tables turns fates → P (table_cells turns) → P (all_cells fates)
-cells_hold P rows rs tables turns fates are holds = subst P (cells_are rows rs tables turns fates are) holds
-
-pub each_once : EachCellOnce
-each_once f u fates stored s =
-    subst (λ (rows : List Row). IsPermutation (all_cells fates) (rows ++ all_lost fates)) (sym (stored_are_cells f u fates stored s))
-    (each_cell_once s.rows s.readings s.tables s.turns fates s.fates_are)
-
-pub stored_have_evidence : StoredHaveEvidence
-stored_have_evidence f u fates stored s =
-    let held : UsesHold f u s.tables s.indexes s.turns = uses_hold f u s.rows s.readings s.tables s.indexes s.turns s.order in
-    all_part (Evidence f) (all_cells fates) (stored_rows stored) (all_lost fates) (each_once f u fates stored s)
-    (cells_hold (AllByRecursion (Evidence f)) s.rows s.readings s.tables s.turns fates s.fates_are (held.evidence s.once))

@@ -54,5 +54,4 @@ good_fates rows (r ∷ rs) (t ∷ tables) (ts ∷ turns) (f ∷ fates) are =
 good_fates rows rs tables turns fates are = absurd are
 
 pub stored_are_good : StoredAreGood
-stored_are_good f u fates stored s =
-    subst (AllByRecursion IsGood) (sym s.stored_are) (good_fates s.rows s.readings s.tables s.turns fates s.fates_are)
+stored_are_good f u trunk fates orphans cells s = good_fates s.rows s.readings s.tables s.turns fates s.fates_are

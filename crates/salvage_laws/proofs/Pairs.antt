@@ -9,10 +9,10 @@ use Rattle.page_lists.specs.Lists.{count}
 use Rattle.page_lists.proofs.Counts.{count-append, count_in, in_head, in_or_not, not_in_from_count}
 use Rattle.page_walk.specs.Cells.{Row}
 use Rattle.use_order.specs.Apart.{AreApart, once_at, row_chains, row_pages, times_at}
-use Rattle.salvage_laws.specs.Laws.{ShareNothing, StoredShareNothing}
-use Rattle.salvage_laws.specs.Stored.{stored_rows}
+use Rattle.salvage_laws.specs.Laws.{KeptShareNothing, ShareNothing}
+use Rattle.salvage_laws.specs.Stored.{kept_cells}
+use Rattle.salvage_laws.proofs.Kept.{kept_are_apart}
 use Rattle.salvage_laws.proofs.Ranges.{ranges_are_apart}
-use Rattle.salvage_laws.proofs.Sharing.{stored_are_apart}
 
 here_once : (x y : Row) → x.page ≡ y.page → x.cell ≡ y.cell → once_at x.page x.cell y ≡ 1
 here_once x y page cell = grind (arith, nat_tests, page, cell)
@@ -86,5 +86,6 @@ pairs_apart f (x ∷ xs) apart =
     AllPairs-cons (ShareNothing f) x xs (All-from_recursion (ShareNothing f x) xs (all_apart f x xs (first_apart x xs apart)))
     (pairs_apart f xs (rest_apart x xs apart))
 
-pub stored_share_nothing : StoredShareNothing
-stored_share_nothing f u fates stored s = pairs_apart f (stored_rows stored) (stored_are_apart f u fates stored s)
+pub kept_share_nothing : KeptShareNothing
+kept_share_nothing f u trunk fates orphans cells s =
+    pairs_apart f (kept_cells f u fates orphans cells) (kept_are_apart f u trunk fates orphans cells s)

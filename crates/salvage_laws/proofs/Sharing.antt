@@ -9,12 +9,6 @@ use Rattle.page_lists.specs.Lists.{count}
 use Rattle.page_lists.proofs.Counts.{count-append}
 use Rattle.page_walk.specs.Cells.{Row}
 use Rattle.use_order.specs.Apart.{AreApart, once_at, row_chains, row_pages, times_at}
-use Rattle.use_order.specs.Laws.{UsesHold}
-use Rattle.use_order.proofs.Holding.{uses_hold}
-use Rattle.salvaged_tables.specs.Laws.{all_cells, all_lost}
-use Rattle.salvage_laws.specs.Laws.{StoredAreApart}
-use Rattle.salvage_laws.specs.Stored.{stored_rows}
-use Rattle.salvage_laws.proofs.Cells.{cells_hold, each_once}
 
 -- ---- what is counted, as a sum over the rows
 
@@ -38,12 +32,12 @@ pages_sum q [] = refl
 pages_sum q (r ∷ rows) = omega (arith, pages_sum q rows, sum_by-cons (on_page q) r rows)
 
 -- a sum over some of the rows is no greater
-less : (n : Row → ℕ) (all xs ys : List Row) → IsPermutation all (xs ++ ys) → sum_by n xs ≤ sum_by n all
+pub less : (n : Row → ℕ) (all xs ys : List Row) → IsPermutation all (xs ++ ys) → sum_by n xs ≤ sum_by n all
 less n all xs ys moved = omega (arith, sum_by-IsPermutation n all (xs ++ ys) moved, sum_by-append n xs ys)
 
 -- ---- some of the rows
 
-some_apart : (all xs ys : List Row) → IsPermutation all (xs ++ ys) → AreApart all → AreApart xs
+pub some_apart : (all xs ys : List Row) → IsPermutation all (xs ++ ys) → AreApart all → AreApart xs
 some_apart all xs ys moved apart = record {
   places = λ p i. omega (arith, times_sum p i all, times_sum p i xs, less (once_at p i) all xs ys moved, apart.places p i);
   chains = λ q. omega (arith, chains_sum q all, chains_sum q xs, less (in_chain q) all xs ys moved, apart.chains q);
@@ -55,9 +49,3 @@ some_apart all xs ys moved apart = record {
     apart.holds q (omega (arith, some, chains_sum q all, chains_sum q xs, less (in_chain q) all xs ys moved)),
   );
 }
-
-pub stored_are_apart : StoredAreApart
-stored_are_apart f u fates stored s =
-    let held : UsesHold f u s.tables s.indexes s.turns = uses_hold f u s.rows s.readings s.tables s.indexes s.turns s.order in
-    some_apart (all_cells fates) (stored_rows stored) (all_lost fates) (each_once f u fates stored s)
-    (cells_hold AreApart s.rows s.readings s.tables s.turns fates s.fates_are (held.apart s.once))

@@ -118,4 +118,4 @@ told_fates all rows (r ∷ rs) (t ∷ tables) (ts ∷ turns) (f ∷ fates) into 
 told_fates all rows rs tables turns fates into are = absurd are
 
 pub lost_are_told : LostAreTold
-lost_are_told f u fates stored s all into = told_fates all s.rows s.readings s.tables s.turns fates into s.fates_are
+lost_are_told f u trunk fates orphans cells s all into = told_fates all s.rows s.readings s.tables s.turns fates into s.fates_are

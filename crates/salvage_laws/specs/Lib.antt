@@ -1,3 +1,4 @@
+pub mod Room
 pub mod Stored
 pub mod Told
 pub mod Laws

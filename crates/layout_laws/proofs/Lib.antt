@@ -1,0 +1,14 @@
+pub mod Numbering
+pub mod Sizes
+pub mod Paging
+pub mod Heads
+pub mod Standing
+pub mod Reading
+pub mod Fit
+pub mod Schema
+pub mod Keys
+pub mod KeyNumbers
+pub mod Tables
+pub mod Whole
+pub mod Typing
+pub mod Spelling

@@ -1,0 +1,11 @@
+pub mod Stored
+pub mod Schema
+pub mod Arranging
+pub mod Wanting
+pub mod Indexes
+pub mod Unplaced
+pub mod Phases
+pub mod Uses
+pub mod Own
+pub mod Left
+pub mod Tabled

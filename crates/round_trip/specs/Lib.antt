@@ -1,0 +1,4 @@
+pub mod Scope
+pub mod Values
+pub mod Laws
+pub mod Found

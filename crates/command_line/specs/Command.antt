@@ -4,7 +4,8 @@ use Rattle.clap.specs.Words.{App, Row, Rule, all_of, first_of, fault_of, matches
 use Rattle.clap.specs.Lexer.{usize_max}
 use Rattle.clap.specs.Simple.{on_top}
 use Rattle.clap.specs.Walk.{is_empty}
-use Rattle.command_line.specs.Parts.{Word, Asked, FileAsked, Lists, RecoveryAsked, Recovers, Values, asked_of}
+use Rattle.clap.specs.declared.builder.action.ArgAction.TheVariants.{SetTrue}
+use Rattle.command_line.specs.Parts.{Word, Asked, FileAsked, Lists, RecoveryAsked, Recovers, Values, asked_of, is_given}
 use Rattle.command_line.specs.declared.options.OptionWords.{OptionWords}
 use Rattle.command_line.specs.declared.request.InputFile.{InputFile}
 use Rattle.command_line.specs.declared.request.Recovery.{Recovery}
@@ -27,6 +28,14 @@ page_size_rule = record (new_rule (codes "page-size")) { long = Some (codes "pag
 abbrev pub reserved_rule : Rule
 reserved_rule = record (new_rule (codes "reserved")) { long = Some (codes "reserved") }
 
+-- `--freelist-corrupt`
+abbrev pub freelist_rule : Rule
+freelist_rule = record (new_rule (codes "freelist-corrupt")) { long = Some (codes "freelist-corrupt"); action = Some SetTrue }
+
+-- `--lost NAME`
+abbrev pub lost_rule : Rule
+lost_rule = record (new_rule (codes "lost")) { long = Some (codes "lost") }
+
 -- no program name among the words, and no flags for help and version
 abbrev pub bare_app : App
 bare_app = on_top (λ s. record s { no_binary_name = true; disable_help_flag = true; disable_version_flag = true }) (new_app (codes "db_salvage"))
@@ -37,13 +46,15 @@ words_app = with_rule (with_rule bare_app mode_rule) word_rule
 
 -- the command line
 unfoldable pub app : App
-app = with_rule (with_rule words_app page_size_rule) reserved_rule
+app = with_rule (with_rule (with_rule (with_rule words_app page_size_rule) reserved_rule) freelist_rule) lost_rule
 
 -- the options' values in the matches of a command line
 abbrev pub values_in : List Row → Values
 values_in rows = record {
   page_size = first_of (codes "page-size") rows;
   reserved = first_of (codes "reserved") rows;
+  freelist_corrupt = is_given (first_of (codes "freelist-corrupt") rows);
+  lost = first_of (codes "lost") rows;
 }
 
 -- what the matches of a command line ask for
@@ -59,6 +70,8 @@ abbrev pub values_of : OptionWords → Values
 values_of o = record {
   page_size = option_map (λ w. w.now) o.page_size;
   reserved = option_map (λ w. w.now) o.reserved;
+  freelist_corrupt = o.freelist_corrupt;
+  lost = option_map (λ w. w.now) o.lost;
 }
 
 -- an input, a recovery and a command, without where their words lie in memory
@@ -70,6 +83,8 @@ recovery_view r = record {
   input = file_view r.input;
   output = r.output.now;
   script = r.script.now;
+  freelist_corrupt = r.freelist_corrupt;
+  lost = option_map (λ w. w.now) r.lost;
 }
 
 abbrev pub view : Request → Asked

@@ -1,6 +1,8 @@
 -- What a command asks for (docs/TEXTS.md, "Command line").
-use Rattle.std.specs.Prelude.{ℕ, ◌-◌, nat_le, Bool, true, if◌then◌else◌, List, [], ◌∷◌, codes, Option, Some, None, option_and_then, option_map}
+use Rattle.std.specs.Prelude.{ℕ, ◌-◌, nat_le, Bool, not, true, false, ◌||◌, if◌then◌else◌, List, [], ◌∷◌, codes, Option, Some, None, is_some, option_and_then, option_map}
+use Rattle.std.specs.Option.{option_map_or}
 use Rattle.std.specs.Str.{bytes_eq}
+use Rattle.command_line.specs.Names.{is_lost_name}
 use Rattle.command_line.specs.Numbers.{page_size_of, reserved_of}
 use Rattle.command_line.specs.declared.request.Listing.{Listing}
 use Rattle.command_line.specs.declared.request.Listing.TheVariants.{Dbdata, Dbptr, Schema}
@@ -17,11 +19,15 @@ pub record FileAsked : Type 0 where
   -- reserved bytes at the end of each page
   pub reserved : Option ℕ
 
--- an input, and the names of what is made of it
+-- an input, the names of what is made of it, and the options that were given
 pub record RecoveryAsked : Type 0 where
   pub input : FileAsked
   pub output : Word
   pub script : Word
+  -- free pages are recovered like any other page
+  pub freelist_corrupt : Bool
+  -- the name of the table of lost rows
+  pub lost : Option Word
 
 -- what a command asks for: an input is listed, or it is recovered
 pub data Asked : Type 0 where
@@ -32,6 +38,13 @@ pub data Asked : Type 0 where
 pub record Values : Type 0 where
   pub page_size : Option Word
   pub reserved : Option Word
+  pub freelist_corrupt : Bool
+  pub lost : Option Word
+
+-- a flag is given: its value is `true`, and else `false`
+abbrev pub is_given : Option Word → Bool
+is_given None = false
+is_given (Some word) = bytes_eq word (codes "true")
 
 -- the listing that a word names
 unfoldable pub listing_of : Word → Option Listing
@@ -67,16 +80,30 @@ file_of name values =
     if leaves_enough size r then Some (record { name = name; page_size = size; reserved = r }) else None)
     (read_option reserved_of values.reserved)) (read_option page_size_of values.page_size)
 
+-- no option is given that is for a recovery alone
+abbrev pub is_for_pages : Values → Bool
+is_for_pages values = not (values.freelist_corrupt || is_some values.lost)
+
 -- a listing of one input
 unfoldable pub list_of : Listing → Option (List Word) → Values → Option Asked
 list_of listing words values =
-    option_and_then (λ name. option_map (λ file. Lists listing file) (file_of name values)) (only_word words)
+    if is_for_pages values then option_and_then (λ name. option_map (λ file. Lists listing file) (file_of name values)) (only_word words)
+    else None
+
+-- the name for the lost rows is in order, where it is given
+abbrev pub has_lost_name : Option Word → Bool
+has_lost_name lost = option_map_or is_lost_name lost true
 
 -- a recovery of an input to two new files
 unfoldable pub recovery_of : Option (List Word) → Values → Option RecoveryAsked
 recovery_of words values =
-    option_and_then (λ names. option_map (λ file. record { input = file; output = names.1.0; script = names.1.1 })
-    (file_of names.0 values)) (three_words words)
+    if has_lost_name values.lost then option_and_then (λ names. option_map (λ file. record {
+      input = file;
+      output = names.1.0;
+      script = names.1.1;
+      freelist_corrupt = values.freelist_corrupt;
+      lost = values.lost;
+    }) (file_of names.0 values)) (three_words words) else None
 
 -- the parts of a command: a mode, further words, and the options' values
 unfoldable pub asked_of : Option Word → Option (List Word) → Values → Option Asked

@@ -1,6 +1,7 @@
 //! The command line: which words are a command, and what they ask for.
 #![tactic(auto)]
 
+mod names;
 mod numbers;
 mod options;
 mod request;

@@ -3,8 +3,9 @@ ghost use Rattle.std.specs.Prelude.{◌≡◌, ◌≤◌, ◌+◌, IfSome, IsTru
 ghost use Rattle.page_access.specs.Pages.{is_page_size};
 ghost use Rattle.command_line.specs.Command.{file_view, values_of};
 ghost use Rattle.command_line.specs.Numbers.{page_size_of, reserved_of};
-ghost use Rattle.command_line.specs.Parts.{file_of, leaves_enough, read_option};
+ghost use Rattle.command_line.specs.Parts.{file_of, has_lost_name, is_for_pages, leaves_enough, read_option};
 
+use crate::names::is_lost_name;
 use crate::numbers::{page_size_in, reserved_in};
 use crate::request::InputFile;
 
@@ -13,6 +14,8 @@ use crate::request::InputFile;
 pub struct OptionWords<'a> {
     pub page_size: Option<&'a str>,
     pub reserved: Option<&'a str>,
+    pub freelist_corrupt: bool,
+    pub lost: Option<&'a str>,
 }
 
 /// An input of this name, where the options for its pages are in order.
@@ -30,6 +33,23 @@ pub(crate) fn file_of<'a>(name: &'a str, options: &OptionWords<'_>) -> Option<In
         page_size,
         reserved,
     })
+}
+
+/// Whether no option is given that is for a recovery alone.
+pub(crate) fn is_for_pages(options: &OptionWords<'_>) -> bool
+    ensures { result ≡ is_for_pages (values_of options.now) }
+{
+    !(options.freelist_corrupt || options.lost.is_some())
+}
+
+/// Whether the name for the lost rows is in order, where it is given.
+pub(crate) fn has_lost_name(lost: Option<&str>) -> bool
+    ensures { result ≡ has_lost_name (option_map (λ w. w.now) lost.entry) }
+{
+    match lost {
+        Some(name) => is_lost_name(name),
+        None => true,
+    }
 }
 
 // The value of `--page-size`, where the option is given.

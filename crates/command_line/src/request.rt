@@ -2,6 +2,7 @@
 ghost use Rattle.std.specs.Prelude.{◌≤◌, ◌+◌, IfSome, IsTrue};
 ghost use Rattle.std.proofs.Props.{props};
 ghost use Rattle.page_access.specs.Pages.{is_page_size};
+ghost use Rattle.command_line.specs.Names.{is_lost_name};
 
 /// What is listed.
 #[derive(Clone, Copy, Debug, PartialEq, Eq)]
@@ -37,6 +38,12 @@ pub struct Recovery<'a> {
     pub output: &'a str,
     /// The name of the new script.
     pub script: &'a str,
+    /// Free pages are recovered like any other page.
+    pub freelist_corrupt: bool,
+    /// The name of the table of lost rows, where `--lost` gives it: not empty, and not beginning with
+    /// `sqlite_` in any case of its letters.
+    pub lost: Option<&'a str>,
+    ghost lost_is: { IfSome lost (λ name. IsTrue (is_lost_name name.now)) } by { Prim.hlevel props },
 }
 
 /// A command.

@@ -23,10 +23,18 @@ fn asked(alloc: Global, words: &[&str]) -> Result<Option<(u32, u8)>, Fail> {
 }
 
 // Whether the words ask for a recovery of a to b and c.
-fn is_recovery(alloc: Global, words: &[&str]) -> Result<bool, Fail> {
+fn is_recovery(
+    alloc: Global,
+    words: &[&str],
+    freelist_corrupt: bool,
+    lost: Option<&str>,
+) -> Result<bool, Fail> {
     let owned = owned(alloc, words)?;
     Ok(match read_words(alloc, &owned) {
-        Ok(Request::Recover(r)) => r.input.name == "a" && r.output == "b" && r.script == "c",
+        Ok(Request::Recover(r)) => {
+            let is_named = r.input.name == "a" && r.output == "b" && r.script == "c";
+            is_named && r.freelist_corrupt == freelist_corrupt && r.lost == lost
+        }
         _ => false,
     })
 }
@@ -103,13 +111,23 @@ fn words_are_a_command_or_not(rt: HostRuntime) -> Result<(), Fail> {
 }
 
 #[test]
-fn a_recovery_has_three_words(rt: HostRuntime) -> Result<(), Fail> {
+fn a_recovery_has_three_words_and_two_options_of_its_own(rt: HostRuntime) -> Result<(), Fail> {
     let alloc = rt.alloc();
-    assert!(rt; is_recovery(alloc, &["recover", "a", "b", "c"])?);
+    assert!(rt; is_recovery(alloc, &["recover", "a", "b", "c"], false, None)?);
+    assert!(rt;
+        is_recovery(
+            alloc,
+            &["recover", "a", "b", "c", "--lost=x", "--freelist-corrupt"],
+            true,
+            Some("x")
+        )?
+    );
     assert!(rt;
         is_recovery(
             alloc,
             &[
+                "--lost",
+                "sqlite",
                 "recover",
                 "a",
                 "b",
@@ -118,7 +136,9 @@ fn a_recovery_has_three_words(rt: HostRuntime) -> Result<(), Fail> {
                 "512",
                 "--reserved",
                 "32"
-            ]
+            ],
+            false,
+            Some("sqlite")
         )?
     );
     Ok(())
@@ -130,15 +150,30 @@ fn words_that_are_no_recovery_are_no_command(rt: HostRuntime) -> Result<(), Fail
     assert!(rt; is_none(alloc, &["recover", "a", "b"])?);
     assert!(rt; is_none(alloc, &["recover", "a", "b", "c", "d"])?);
     assert!(rt; is_none(alloc, &["recover", "a", "b", "c", "--page-size", "1000"])?);
+    assert!(rt; is_none(alloc, &["recover", "a", "b", "c", "--lost", "sqlite_x"])?);
+    assert!(rt; is_none(alloc, &["recover", "a", "b", "c", "--lost", "SQLite_"])?);
+    assert!(rt; is_none(alloc, &["recover", "a", "b", "c", "--lost", ""])?);
+    assert!(rt; is_none(alloc, &["recover", "a", "b", "c", "--freelist-corrupt=1"])?);
+    assert!(rt;
+        is_none(
+            alloc,
+            &[
+                "recover",
+                "a",
+                "b",
+                "c",
+                "--freelist-corrupt",
+                "--freelist-corrupt"
+            ]
+        )?
+    );
     Ok(())
 }
 
-// Free pages and lost rows are no part of a recovery yet.
 #[test]
-fn options_without_an_effect_are_refused(rt: HostRuntime) -> Result<(), Fail> {
+fn options_of_a_recovery_stand_with_no_listing(rt: HostRuntime) -> Result<(), Fail> {
     let alloc = rt.alloc();
-    assert!(rt; is_none(alloc, &["recover", "a", "b", "c", "--lost", "x"])?);
-    assert!(rt; is_none(alloc, &["recover", "a", "b", "c", "--freelist-corrupt"])?);
     assert!(rt; is_none(alloc, &["dbdata", "a", "--lost", "x"])?);
+    assert!(rt; is_none(alloc, &["schema", "a", "--freelist-corrupt"])?);
     Ok(())
 }

@@ -2,12 +2,12 @@
 ghost use Rattle.std.specs.Prelude.{◌≡◌, ◌≢◌, ◌↔◌, None, Some, IfOk, IsErrOf, map, option_map, string_bytes};
 ghost use Rattle.clap.specs.Words.{app_of, found_of, rows_of, kind_of};
 ghost use Rattle.command_line.specs.Command.{app, asked_in, command_of, recovery_view, values_of, view, words_app};
-ghost use Rattle.command_line.specs.Parts.{asked_of, list_of, listing_of, recovery_of};
+ghost use Rattle.command_line.specs.Parts.{asked_of, is_given, list_of, listing_of, recovery_of};
 
-use crate::options::{OptionWords, file_of};
+use crate::options::{OptionWords, file_of, has_lost_name, is_for_pages};
 use crate::request::{Listing, Recovery, Request};
 use clap::error::ErrorKind;
-use clap::{Arg, ArgMatches, Command, Error};
+use clap::{Arg, ArgAction, ArgMatches, Command, Error};
 use std::alloc::{AllocError, Global};
 
 /// Why words are not read.
@@ -53,7 +53,15 @@ fn command_line<'a>(alloc: Global) -> Result<Command<'a>, AllocError>
 {
     let page_size = Arg::new(alloc, "page-size").long("page-size");
     let reserved = Arg::new(alloc, "reserved").long("reserved");
-    words_line(alloc)?.arg(page_size)?.arg(reserved)
+    let freelist = Arg::new(alloc, "freelist-corrupt")
+        .long("freelist-corrupt")
+        .action(ArgAction::SetTrue);
+    let lost = Arg::new(alloc, "lost").long("lost");
+    words_line(alloc)?
+        .arg(page_size)?
+        .arg(reserved)?
+        .arg(freelist)?
+        .arg(lost)
 }
 
 // The words of the command line, for clap: a mode, and any number of further words.
@@ -77,13 +85,27 @@ fn asked_in<'a>(matches: &ArgMatches<'a>) -> Option<Request<'a>>
 {
     let page_size = matches.get_str("page-size");
     let reserved = matches.get_str("reserved");
+    let flag = matches.get_str("freelist-corrupt");
+    let lost = matches.get_str("lost");
     let mode = matches.get_str("MODE");
     let words = matches.get_strs("WORD");
     let options = OptionWords {
         page_size,
         reserved,
+        freelist_corrupt: is_given(flag),
+        lost,
     };
     asked_of(mode, words, &options)
+}
+
+// Whether a flag is given.
+fn is_given(value: Option<&str>) -> bool
+    ensures { result ≡ is_given (option_map (λ w. w.now) value.entry) }
+{
+    match value {
+        Some(word) => word == "true",
+        None => false,
+    }
 }
 
 // What a mode, further words and the options ask for.
@@ -113,6 +135,9 @@ fn list_of<'a>(
     ensures { option_map view result ≡ list_of listing
         (option_map (λ s. map (λ w. w.now) s.now) words.entry) (values_of options.now) }
 {
+    if !is_for_pages(options) {
+        return None;
+    }
     let Some([input]) = words else {
         return None;
     };
@@ -125,6 +150,9 @@ fn recovery_of<'a>(words: Option<&[&'a str]>, options: &OptionWords<'a>) -> Opti
     ensures { option_map recovery_view result ≡ recovery_of
         (option_map (λ s. map (λ w. w.now) s.now) words.entry) (values_of options.now) }
 {
+    if !has_lost_name(options.lost) {
+        return None;
+    }
     let Some([input, output, script]) = words else {
         return None;
     };
@@ -132,6 +160,8 @@ fn recovery_of<'a>(words: Option<&[&'a str]>, options: &OptionWords<'a>) -> Opti
         input: file_of(input, options)?,
         output,
         script,
+        freelist_corrupt: options.freelist_corrupt,
+        lost: options.lost,
     })
 }
 

@@ -13,4 +13,7 @@ returns c =
       all_by_row f (codes "WORD") ∙ sym c.get_strs-words.ensures,
       first_by_row f (codes "page-size") ∙ sym c.get_str-page_size.ensures,
       first_by_row f (codes "reserved") ∙ sym c.get_str-reserved.ensures,
+      first_by_row f (codes "freelist-corrupt") ∙ sym c.get_str-flag.ensures,
+      first_by_row f (codes "lost") ∙ sym c.get_str-lost.ensures,
+      sym c.is_given.ensures,
     ) c.asked_of.ensures

@@ -1,9 +1,12 @@
 -- How the writing of three files ends, and so the salvage.
-use Rattle.std.proofs.Common.{◌≡◌, ◌≤◌, ◌<◌, ℕ, Bool, List, Option, Some, None, Result, Ok, Err, IfSome, subst}
+use Rattle.std.proofs.Common.{◌≡◌, ◌≤◌, ◌<◌, ℕ, Bool, List, Option, Some, None, Result, Ok, Err, IfSome, IsErrOf, arith, subst}
 use Rattle.page_access.specs.Outside.{Gains, GainsPrefix}
 use Rattle.salvage_files.specs.Files.{Finishes, Makes}
 use Rattle.db_builder.specs.Load.{load}
-use Rattle.salvage_core.specs.Outcome.{Ends, EndsOut, IsCut, IsMade, Outputs, turn_of}
+use Rattle.salvage_core.specs.Outcome.{Ends, EndsOut, EndsWriting, IsCut, IsMade, Outputs, database_of, turn_of}
+use Rattle.well_formed.specs.Spells.{Spells}
+use Rattle.layout_laws.specs.Written.{database_of as spelled_of}
+use Rattle.well_formed.proofs.Once.{one_database}
 use Rattle.salvage_core.specs.Plan.{IsPlan, IsRefused}
 use Rattle.salvage_core.specs.Sound.{OnlyOfInput}
 use Rattle.salvage_core.specs.declared.faults.Fault.{Fault}
@@ -11,6 +14,9 @@ use Rattle.salvage_core.specs.declared.faults.Fault.TheVariants as faults
 use Rattle.salvage_core.specs.declared.gathered.Gathered.{Gathered}
 use Rattle.salvage_core.specs.declared.options.Options.{Options}
 use Rattle.salvage_core.specs.declared.recovers.Summary.{Summary}
+use Rattle.salvaged_tables.specs.Salvaged.{HavePlaces}
+use Rattle.salvage_core.proofs.Backing.{told_back}
+use Rattle.salvage_core.proofs.Holding.{told_holds}
 
 -- a file that was made, and one whose writing was cut short
 pub made_of : {R T E : Type 0} {bytes created : R → Option (List ℕ)} {finished : R → Bool} {faults : R → ℕ} {name text all : List ℕ} {old new : R} {x : T} →
@@ -27,29 +33,34 @@ cut_of {bytes = bytes} {old = old} {new = new} e m =
 
 -- what was gathered is written, or is not
 pub ends_of : (o : Options) (told : Option (List ℕ)) (to : Outputs) (g : Gathered) (r : Result Summary Fault) →
-    IfSome told (λ all. IsPlan o all g) → EndsOut g o.load_limit to r → Ends o told to r
-ends_of o told to g (Ok s) plan e = record {
+    HavePlaces g.db.tables.items g.places.items → IfSome told (λ all. IsPlan o all g) → EndsOut g o.load_limit to r → Ends o told to r
+ends_of o told to g (Ok s) placed plan e = record {
   plan = g;
   planned = plan;
-  small = e.1;
+  holds = told_holds o told g plan;
+  back = told_back o told g placed plan;
+  small = e.1.0;
+  spells = e.1.1;
+  only = λ other says. one_database (database_of g) other (spelled_of g.db) says e.1.1;
   database = e.0.database;
   script = e.0.script;
   report = e.0.report;
   pages_in = e.0.pages_in;
   pages = e.0.pages;
   rows = e.0.rows;
+  lost = e.0.lost;
 }
-ends_of o told to g (Err faults.OutputFault) plan e = record { plan = g; planned = plan; database = e }
-ends_of o told to g (Err faults.ScriptFault) plan e = record { plan = g; planned = plan; database = e.0; script = e.1 }
-ends_of o told to g (Err faults.ReportFault) plan e = record { plan = g; planned = plan; database = e.0; script = e.1.0; report = e.1.1 }
-ends_of o told to g (Err (faults.OutputTooLarge n)) plan e = record { plan = g; planned = plan; over = e.0; told_load = e.1 }
-ends_of o None to g (Err faults.Memory) plan e = tt
-ends_of o (Some all) to g (Err faults.Memory) plan e = tt
-ends_of o told to g (Err faults.InputFault) plan e = absurd e
-ends_of o told to g (Err (faults.TooLarge len)) plan e = absurd e
-ends_of o told to g (Err faults.NoPageSize) plan e = absurd e
-ends_of o told to g (Err (faults.NoWholePage len size)) plan e = absurd e
-ends_of o told to g (Err (faults.Utf16 encoding)) plan e = absurd e
+ends_of o told to g (Err faults.OutputFault) placed plan e = record { plan = g; planned = plan; database = e }
+ends_of o told to g (Err faults.ScriptFault) placed plan e = record { plan = g; planned = plan; database = e.0; script = e.1 }
+ends_of o told to g (Err faults.ReportFault) placed plan e = record { plan = g; planned = plan; database = e.0; script = e.1.0; report = e.1.1 }
+ends_of o told to g (Err (faults.OutputTooLarge n)) placed plan e = record { plan = g; planned = plan; over = e.0; told_load = e.1 }
+ends_of o None to g (Err faults.Memory) placed plan e = tt
+ends_of o (Some all) to g (Err faults.Memory) placed plan e = tt
+ends_of o told to g (Err faults.InputFault) placed plan e = absurd e
+ends_of o told to g (Err (faults.TooLarge len)) placed plan e = absurd e
+ends_of o told to g (Err faults.NoPageSize) placed plan e = absurd e
+ends_of o told to g (Err (faults.NoWholePage len size)) placed plan e = absurd e
+ends_of o told to g (Err (faults.Utf16 encoding)) placed plan e = absurd e
 
 -- nothing was gathered
 pub ends_early : (o : Options) (told : Option (List ℕ)) (to : Outputs) (fault : Fault) → OnlyOfInput {A = Gathered} (Err fault)
@@ -64,3 +75,21 @@ ends_early o told to (faults.OutputTooLarge n) only why = absurd only
 ends_early o told to faults.OutputFault only why = absurd only
 ends_early o told to faults.ScriptFault only why = absurd only
 ends_early o told to faults.ReportFault only why = absurd only
+
+pub no_error : {T E : Type 0} {x : T} {fault : E} → IsErrOf {T = T} (Ok x) fault → ⊥
+no_error of = cc
+
+-- what was written is well-formed
+pub out_of : (g : Gathered) (limit : ℕ) (to : Outputs) (r : Result Summary Fault) → (limit < load g.db → ⊥)
+    → Spells (database_of g) (spelled_of g.db) → EndsWriting g to r → EndsOut g limit to r
+out_of g limit to (Ok s) small spells e = (e, (omega (arith, small), spells))
+out_of g limit to (Err faults.OutputFault) small spells e = e
+out_of g limit to (Err faults.ScriptFault) small spells e = e
+out_of g limit to (Err faults.ReportFault) small spells e = e
+out_of g limit to (Err (faults.OutputTooLarge n)) small spells e = absurd e
+out_of g limit to (Err faults.Memory) small spells e = absurd e
+out_of g limit to (Err faults.InputFault) small spells e = absurd e
+out_of g limit to (Err (faults.TooLarge len)) small spells e = absurd e
+out_of g limit to (Err faults.NoPageSize) small spells e = absurd e
+out_of g limit to (Err (faults.NoWholePage len size)) small spells e = absurd e
+out_of g limit to (Err (faults.Utf16 encoding)) small spells e = absurd e

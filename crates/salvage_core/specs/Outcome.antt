@@ -8,7 +8,12 @@ use Rattle.table_shape.specs.declared.rows.OutTable.{OutTable}
 use Rattle.db_builder.specs.Layout.{last_page, layout}
 use Rattle.db_builder.specs.Load.{load}
 use Rattle.db_builder.specs.Trees.{trees_of}
+use Rattle.layout_laws.specs.Written.{database_of as spelled_of}
+use Rattle.well_formed.specs.Database.{Database}
+use Rattle.well_formed.specs.Spells.{Spells}
 use Rattle.salvage_files.specs.Files.{text_part}
+use Rattle.salvage_core.specs.Back.{ComesBack}
+use Rattle.salvage_core.specs.Holds.{Holds}
 use Rattle.salvage_core.specs.Plan.{IsPlan, IsRefused}
 use Rattle.salvage_core.specs.declared.faults.Fault.{Fault}
 use Rattle.salvage_core.specs.declared.faults.Fault.TheVariants as faults
@@ -75,21 +80,28 @@ pub record Outputs : Type 0 where
   pub script_turn : SinkTurn
   pub report_turn : SinkTurn
 
--- the rows of the built tables
+-- the rows of the tables that are built: all but those of the table of lost cells
 abbrev pub rows_out : Gathered → ℕ
-rows_out g = min (sum_by (λ (t : OutTable). length t.rows.items) g.db.tables.items) (2 ^ 64 - 1)
+rows_out g = min (sum_by (λ (t : OutTable). length t.rows.items) g.db.tables.items) (2 ^ 64 - 1) - g.lost
 
--- all is done: of the plan of the input, where it tells its bytes
+-- all is done: of the plan of the input, where it tells its bytes, and what holds of all that is written
 pub record IsDone (o : Options) (told : Option (List ℕ)) (to : Outputs) (s : Summary) : Type 0 where
   pub plan : Gathered
   pub planned : IfSome told (λ all. IsPlan o all plan)
+  pub holds : IfSome told (λ all. Holds o all plan)
+  -- a well-formed input comes back whole
+  pub back : IfSome told (λ all. ComesBack o all plan)
   pub small : load plan.db ≤ o.load_limit
+  -- the new file is well-formed; it spells the plan's database, and no other
+  pub spells : Spells (database_of plan) (spelled_of plan.db)
+  pub only : (other : Database) → Spells (database_of plan) other → other ≡ spelled_of plan.db
   pub database : IsMade to.database (database_of plan) to.out_turn
   pub script : IsMade to.script (script_in plan) to.script_turn
   pub report : IsWhole (report_of plan) to.report_turn
   pub pages_in : s.pages_in ≡ plan.uses.pages
   pub pages : s.pages_out ≡ pages_out plan
   pub rows : s.rows ≡ rows_out plan
+  pub lost : s.lost ≡ plan.lost
 
 -- the database is not written whole
 pub record StopsAtDatabase (o : Options) (told : Option (List ℕ)) (to : Outputs) : Type 0 where
@@ -138,6 +150,7 @@ pub record IsWritten (g : Gathered) (to : Outputs) (s : Summary) : Type 0 where
   pub pages_in : s.pages_in ≡ g.uses.pages
   pub pages : s.pages_out ≡ pages_out g
   pub rows : s.rows ≡ rows_out g
+  pub lost : s.lost ≡ g.lost
 
 -- how the writing ends
 abbrev pub EndsWriting : Gathered → Outputs → Result Summary Fault → Type 0
@@ -152,7 +165,7 @@ EndsWriting g to (Err fault) = ⊥
 
 -- the same of a database whose load is looked at first
 abbrev pub EndsOut : Gathered → ℕ → Outputs → Result Summary Fault → Type 0
-EndsOut g limit to (Ok s) = IsWritten g to s × (load g.db ≤ limit)
+EndsOut g limit to (Ok s) = IsWritten g to s × ((load g.db ≤ limit) × Spells (database_of g) (spelled_of g.db))
 EndsOut g limit to (Err (faults.OutputTooLarge n)) = (limit < load g.db) × (n ≡ load g.db)
 EndsOut g limit to (Err faults.Memory) = ⊤
 EndsOut g limit to (Err fault) = EndsWriting g to (Err fault)

@@ -1,6 +1,6 @@
 -- What a salvage gathers of the bytes of an input: the plan of all that it writes (docs/ARCHITECTURE.md, "Order of use";
 -- docs/TEXTS.md, "The report").
-use Rattle.std.specs.Prelude.{◌≡◌, ◌≤◌, ◌^◌, ◌+◌, ℕ, ◌-◌, ◌*◌, nat_lt, if◌then◌else◌, IsTrue, IfSome, Option, Some, None, unwrap_or, Result, Ok, Err, false, true, List, [], ◌∷◌, ◌++◌, length, map, ⊤}
+use Rattle.std.specs.Prelude.{◌≡◌, ◌≤◌, ◌^◌, ◌+◌, ℕ, ◌-◌, nat_lt, ◌&&◌, not, if◌then◌else◌, IsTrue, IfSome, IsSomeAnd, Option, Some, None, unwrap_or, Result, Ok, Err, false, true, List, [], ◌∷◌, ◌++◌, length, map, ⊤}
 use Rattle.std.specs.List.{flat_map, range_with_len}
 use Rattle.page_access.specs.Pages.{File, is_page_size}
 use Rattle.page_access.specs.declared.geometry.Geometry.{Geometry}
@@ -12,7 +12,13 @@ use Rattle.page_walk.specs.declared.rows.PageNotes.{PageNotes}
 use Rattle.raw_schema.specs.Schema.{bad_rows, schema_notes}
 use Rattle.tree_uses.specs.Trees.{Tree, tree_of}
 use Rattle.schema_texts.specs.declared.readings.TableReading.{TableReading}
-use Rattle.use_order.specs.Order.{AreInOrder, after_uses}
+use Rattle.use_order.specs.Order.{AreInOrder, after_uses, behind_uses}
+use Rattle.orphan_trees.specs.Orphans.{Orphan, orphan_of}
+use Rattle.orphan_uses.specs.Order.{AreOrphans, after_orphans}
+use Rattle.orphan_cells.specs.Orphaned.{orphan_failed, orphan_lines}
+use Rattle.lost_found.specs.Names.{CanBeBase}
+use Rattle.salvage_laws.specs.Stored.{lost_cells}
+use Rattle.salvage_core.specs.Lost.{lost_lines, lost_tables, schema_names}
 use Rattle.table_parts.specs.Lines.{note_lines}
 use Rattle.report_text.specs.declared.ReportLine.{ReportLine}
 use Rattle.report_text.specs.declared.ReportLine.TheVariants as lines
@@ -28,6 +34,7 @@ use Rattle.salvage_core.specs.declared.options.Options.{Options}
 
 -- options that the command line allows, within the limits
 pub record AreOptions (o : Options) : Type 0 where
+  pub lost : CanBeBase o.lost
   pub size : IfSome o.page_size (λ s. IsTrue (is_page_size s))
   pub enough : IfSome o.page_size (λ s. IfSome o.reserved (λ r. r + 480 ≤ s))
   pub input_limit : o.input_limit ≤ 2 ^ 28
@@ -58,9 +65,14 @@ pages_in f = range_with_len 1 f.pages
 abbrev pub header_number : Finding → ℕ → ℕ
 header_number f number = if is_by_header f.origin then number else 0
 
--- What is gathered of a file: the uses of its pages in order, the fates of its tables, and what these give. All that is written
--- follows from these definitions.
-pub record IsFilePlan (found : Finding) (left : ℕ) (f : File) (g : Gathered) : Type 0 where
+-- the first trunk of the freelist, where the freelist is looked at: where the page size is the header's, and unless the
+-- freelist is held to be corrupt
+abbrev pub trunk_of : Options → Finding → Option ℕ
+trunk_of o found = if is_by_header found.origin && not o.freelist_corrupt then Some found.header.first_trunk else None
+
+-- What is gathered of a file: the uses of its pages in order, the fates of its tables, the cells that no table has, and what
+-- these give. All that is written follows from these definitions.
+pub record IsFilePlan (o : Options) (found : Finding) (left : ℕ) (f : File) (g : Gathered) : Type 0 where
   pub readings : List TableReading
   pub tables : List Tree
   pub indexes : List Tree
@@ -68,21 +80,32 @@ pub record IsFilePlan (found : Finding) (left : ℕ) (f : File) (g : Gathered) :
   pub fates : List TableFate
   pub order : AreInOrder f (pages_in f) g.schema.items readings tables indexes turns
   pub fates_are : AreFates g.schema.items readings tables turns fates
-  -- the tables that are built, with the cells of their rows
-  pub stored : stored_tables g.db.tables.items g.places.items ≡ flat_map table_of fates
+  -- the trees of the pages that have no other use, and what becomes of their cells
+  pub orphans : List Orphan
+  pub cells : List (List (ℕ × List Outcome))
+  pub orphans_are : AreOrphans f (behind_uses f (pages_in f) tables indexes turns) (trunk_of o found) orphans cells
+  -- the cells that no table has
+  pub lost : List (ℕ × Row)
+  pub lost_are : lost ≡ lost_cells (bad_rows f (pages_in f)) fates orphans cells
+  -- the tables that are built and that of the lost cells, with the cells of their rows
+  pub stored : stored_tables g.db.tables.items g.places.items
+      ≡ flat_map table_of fates ++ lost_tables o.lost (schema_names g.schema.items) lost
   pub user_version : g.db.user_version ≡ header_number found found.header.user_version
   pub application_id : g.db.application_id ≡ header_number found found.header.application_id
+  pub lost_rows : g.lost ≡ length lost
   -- the texts
   pub script : g.script.items ≡ script_of g.schema.items fates
   pub lines : g.lines.items ≡ front_lines found left (bad_rows f (pages_in f)) (schema_notes f (pages_in f))
-      ++ flat_map fate_lines fates
+      ++ (flat_map fate_lines fates ++ (orphan_lines orphans cells
+      ++ lost_lines (lost_tables o.lost (schema_names g.schema.items) lost)))
   -- the uses of the pages
   pub trees : map tree_of g.trees.items ≡ tables ++ indexes
-  pub failed : map failed_seen g.failed.items ≡ flat_map failed_of fates
-  pub uses : g.uses ≡ after_uses f (fresh f.pages 6) tables indexes turns
+  pub orphan_trees : map orphan_of g.orphans.items ≡ orphans
+  pub failed : map failed_seen g.failed.items ≡ flat_map failed_of fates ++ orphan_failed orphans cells
+  pub uses : g.uses ≡ after_orphans f (after_uses f (fresh f.pages 6) tables indexes turns) (trunk_of o found) orphans cells
   pub size : g.page_size ≡ found.size
   pub origin : g.origin ≡ found.origin
-  pub cut : IfSome g.geometry (λ (geo : Geometry).
+  pub cut : IsSomeAnd g.geometry (λ (geo : Geometry).
       (geo.page_size ≡ found.size) × (geo.usable ≡ found.usable) × (geo.pages ≡ found.pages))
 
 -- ---- an empty file
@@ -96,12 +119,14 @@ pub record IsEmptyPlan (o : Options) (g : Gathered) : Type 0 where
   pub user_version : g.db.user_version ≡ 0
   pub application_id : g.db.application_id ≡ 0
   pub script : g.script.items ≡ []
-  pub lines : g.lines.items ≡ lines.Geometry (empty_size o) 0 0 origins.Empty ∷ []
+  pub lines : g.lines.items ≡ lines.Geometry (empty_size o) 0 0 origins.Empty ∷ lines.Orphans 0 0 ∷ []
+  pub lost_rows : g.lost ≡ 0
   pub size : g.page_size ≡ empty_size o
   pub origin : g.origin ≡ origins.Empty
   pub cut : g.geometry ≡ None
   pub schema : g.schema.items ≡ []
   pub trees : g.trees.items ≡ []
+  pub orphans : g.orphans.items ≡ []
   pub places : g.places.items ≡ []
   pub failed : g.failed.items ≡ []
   pub uses : g.uses ≡ fresh 0 6
@@ -115,7 +140,7 @@ file_by bytes f = record { bytes = bytes; size = f.size; usable = f.usable; page
 -- what is gathered of an input with these pages, or none; its texts are not in UTF-16
 abbrev pub IsPlanBy : Options → List ℕ → Result (Option Finding) InputFault → Gathered → Type 0
 IsPlanBy o all (Ok None) g = IsEmptyPlan o g
-IsPlanBy o all (Ok (Some f)) g = (is_utf16 f ≡ false) × IsFilePlan f (left_of all f) (file_by all f) g
+IsPlanBy o all (Ok (Some f)) g = (is_utf16 f ≡ false) × IsFilePlan o f (left_of all f) (file_by all f) g
 IsPlanBy o all (Err fault) g = ⊥
 
 -- the pages of an input under the options
@@ -162,7 +187,7 @@ IsReadAnswer (Err (faults.Utf16 encoding)) = ⊤
 IsReadAnswer (Err fault) = ⊥
 
 -- what is answered of these pages: what they give, or that their texts are in UTF-16
-abbrev pub IsPagesAnswer : List ℕ → Finding → Result Gathered Fault → Type 0
-IsPagesAnswer all f (Ok g) = (is_utf16 f ≡ false) × IsFilePlan f (left_of all f) (file_by all f) g
-IsPagesAnswer all f (Err (faults.Utf16 encoding)) = (is_utf16 f ≡ true) × (encoding ≡ f.header.encoding)
-IsPagesAnswer all f (Err fault) = IsReadAnswer {A = Gathered} (Err fault)
+abbrev pub IsPagesAnswer : Options → List ℕ → Finding → Result Gathered Fault → Type 0
+IsPagesAnswer o all f (Ok g) = (is_utf16 f ≡ false) × IsFilePlan o f (left_of all f) (file_by all f) g
+IsPagesAnswer o all f (Err (faults.Utf16 encoding)) = (is_utf16 f ≡ true) × (encoding ≡ f.header.encoding)
+IsPagesAnswer o all f (Err fault) = IsReadAnswer {A = Gathered} (Err fault)

@@ -1,6 +1,7 @@
 //! What a file gives.
 use crate::Options;
 use db_builder::OutDb;
+use orphan_trees::OrphanTree;
 use page_access::Geometry;
 use page_lists::PageTable;
 use page_size::Origin;
@@ -24,8 +25,13 @@ pub struct Gathered {
     pub schema: Vec<SchemaRow>,
     /// The trees of its tables and then those of its indexes, in schema order.
     pub trees: Vec<TreeUse>,
-    /// What is recovered.
+    /// The trees of the pages that have no other use.
+    pub orphans: Vec<OrphanTree>,
+    /// What is recovered: the tables that are built, in schema order, and that of the lost cells, where there
+    /// are any.
     pub db: OutDb,
+    /// How many rows the table of lost cells has.
+    pub lost: u64,
     /// The cells of the rows of each table of it, row by row.
     pub places: Vec<Vec<Placed>>,
     /// The cells that are not read for their overflow chain or their record, in the order of their turns.

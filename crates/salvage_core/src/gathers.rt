@@ -1,42 +1,27 @@
 //! What the bytes of an input give.
-ghost use Rattle.std.specs.Prelude.{◌≡◌, ◌≤◌, ◌^◌, ◌*◌, length, map, unwrap_or, IsTrue, Some, IfOk, IfSome, OnOk};
-ghost use Rattle.std.specs.List.{AllByRecursion, range_with_len};
-ghost use Rattle.cell_reader.specs.declared.shapes.Kind.{Kind};
-ghost use Rattle.page_access.specs.Files.{file_of};
+ghost use Rattle.std.specs.Prelude.{◌≡◌, ◌≤◌, ◌^◌, unwrap_or, IsTrue, Some, IfOk, IfSome, OnOk};
 ghost use Rattle.page_access.specs.Outside.{HasCauseOf, KeepsSource};
 ghost use Rattle.page_access.specs.Pages.{is_page_size};
-ghost use Rattle.page_lists.specs.Table.{fresh};
 ghost use Rattle.page_size.specs.Rule.{finding};
 ghost use Rattle.input_pages.specs.Input.{IsWithin, left_of};
-ghost use Rattle.salvage_core.specs.Plan.{AreOptions, Gathers, IsEmptyPlan, IsPagesAnswer, IsReadAnswer};
-ghost use Rattle.salvage_core.specs.Sound.{IsSound, OnlyOfInput};
-ghost use Rattle.salvage_core.specs.Uses.{AreUses, HaveReadings};
 ghost use Rattle.salvage_core.specs.Outcome.{HasNumbers};
+ghost use Rattle.salvage_core.specs.Plan.{AreOptions, Gathers, IsEmptyPlan, IsPagesAnswer, IsReadAnswer, trunk_of};
+ghost use Rattle.salvage_core.specs.Sound.{IsSound, OnlyOfInput};
 
 use crate::assemble::assemble;
+use crate::uses::uses_of;
 use crate::{Fault, Gathered, Options};
 use db_builder::OutDb;
 use input_pages::{Input, is_utf16, open_input};
-use page_access::{Geometry, PageCache, ReadFault, Source};
+use page_access::Source;
 use page_lists::PageTable;
-use page_size::Origin;
-use page_walk::{LISTS, survey};
+use page_size::{Found, Origin};
+use page_walk::LISTS;
 use report_text::ReportLine;
 use std::alloc::{AllocError, Global};
-use use_order::{FileUses, find_uses};
-
-// How many pages are in memory at a time.
-const CACHED_PAGES: u32 = 64;
 
 // The page size of a database that is written of nothing, where no option gives one.
 const EMPTY_SIZE: u32 = 4096;
-
-/// What is found on the pages of a file, and the use of each page.
-#[derive(Drop)]
-pub struct FoundUses {
-    pub uses: FileUses,
-    pub table: PageTable,
-}
 
 /// All that the bytes of the input of this name give. It is refused for the faults of its source, of its
 /// length, of its page size and of its encoding, and for want of memory.
@@ -63,7 +48,7 @@ pub fn gather<S: Source>(
         opts.page_size,
         opts.reserved,
     )? {
-        Some(input) => gather_pages(alloc, &input, src),
+        Some(input) => gather_pages(alloc, opts, &input, src),
         None => Ok(gather_nothing(alloc, opts)?),
     }
 }
@@ -72,6 +57,7 @@ pub fn gather<S: Source>(
 fn empty_size(page_size: Option<u32>) -> u32
     requires { IfSome page_size (λ s. IsTrue (is_page_size s)) }
     ensures value { result ≡ unwrap_or page_size 4096 }
+    ensures valid { IsTrue (is_page_size result) }
     ensures least { 512 ≤ result }
     ensures most { result ≤ 65536 }
 {
@@ -95,6 +81,7 @@ fn gather_nothing(alloc: Global, opts: &Options) -> Result<Gathered, AllocError>
         pages: 0,
         origin: Origin::Empty,
     })?;
+    lines.push(ReportLine::Orphans { trees: 0, pages: 0 })?;
     Ok(Gathered {
         geometry: None,
         origin: Origin::Empty,
@@ -102,11 +89,13 @@ fn gather_nothing(alloc: Global, opts: &Options) -> Result<Gathered, AllocError>
         uses: PageTable::new(alloc, 0, LISTS)?,
         schema: Vec::new(alloc),
         trees: Vec::new(alloc),
+        orphans: Vec::new(alloc),
         db: OutDb {
             tables: Vec::new(alloc),
             user_version: 0,
             application_id: 0,
         },
+        lost: 0,
         places: Vec::new(alloc),
         failed: Vec::new(alloc),
         script: Vec::new(alloc),
@@ -115,10 +104,16 @@ fn gather_nothing(alloc: Global, opts: &Options) -> Result<Gathered, AllocError>
 }
 
 // What the pages of an input give.
-fn gather_pages<S: Source>(alloc: Global, input: &Input, src: &mut S) -> Result<Gathered, Fault>
-    requires { IsWithin (2 ^ 28) input.now }
+fn gather_pages<S: Source>(
+    alloc: Global,
+    opts: &Options,
+    input: &Input,
+    src: &mut S,
+) -> Result<Gathered, Fault>
+    requires options { AreOptions opts.now }
+    requires within { IsWithin (2 ^ 28) input.now }
     ensures plan { IfSome (S.bytes src.old) (λ all. input.now.left ≡ left_of all (finding input.now.found)
-        → IsPagesAnswer all (finding input.now.found) result) }
+        → IsPagesAnswer opts.now all (finding input.now.found) result) }
     ensures sound { IfOk result IsSound }
     ensures only { IsReadAnswer result }
     ensures cause { HasCauseOf Fault.InputFault (S.faults src.old) (S.faults src.new) result }
@@ -129,23 +124,18 @@ fn gather_pages<S: Source>(alloc: Global, input: &Input, src: &mut S) -> Result<
         let encoding = found.header.encoding;
         return Err(Fault::Utf16 { encoding });
     }
-    let uses = uses_of(alloc, &found.geometry, src)?;
-    Ok(assemble(alloc, input, uses)?)
+    let first_trunk = trunk_of(opts, found);
+    let uses = uses_of(alloc, &found.geometry, first_trunk, src)?;
+    Ok(assemble(alloc, opts, input, uses)?)
 }
 
-// The uses of the pages of a file.
-fn uses_of<S: Source>(alloc: Global, geo: &Geometry, src: &mut S) -> Result<FoundUses, ReadFault>
-    requires few { geo.now.pages * geo.now.page_size ≤ 2 ^ 28 }
-    ensures uses { IfOk result (λ u. IfSome (S.bytes src.old)
-        (λ all. AreUses (file_of all geo.now) u.uses u.table)) }
-    ensures readings { IfOk result (λ u. HaveReadings geo.now.usable geo.now.pages u.uses) }
-    ensures lists { IfOk result (λ u. (u.table.pages ≡ geo.now.pages) × (length u.table.lists ≡ 7)) }
-    ensures cause { HasCauseOf ReadFault.Source (S.faults src.old) (S.faults src.new) result }
-    ensures kept { KeepsSource S.bytes S.attached S.faults S.reads src.old src.new }
+// The first trunk of the freelist, where the freelist is looked at.
+fn trunk_of(opts: &Options, found: &Found) -> Option<u32>
+    ensures { result ≡ trunk_of opts.now (finding found.now) }
 {
-    let mut cache = PageCache::new(alloc, geo, CACHED_PAGES)?;
-    let kinds = survey(alloc, src, geo, &mut cache)?;
-    let mut table = PageTable::new(alloc, geo.pages, LISTS)?;
-    let uses = find_uses(alloc, src, geo, &mut cache, &kinds, &mut table)?;
-    Ok(FoundUses { uses, table })
+    if found.origin == Origin::Header && !opts.freelist_corrupt {
+        Some(found.header.first_trunk)
+    } else {
+        None
+    }
 }

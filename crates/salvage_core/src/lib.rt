@@ -7,8 +7,10 @@ mod faults;
 mod fronts;
 mod gathered;
 mod gathers;
+mod lost;
 mod options;
 mod recovers;
+mod uses;
 
 pub use faults::Fault;
 pub use gathered::Gathered;

@@ -9,6 +9,7 @@ ghost use Rattle.salvage_core.specs.Outcome.{Ends, EndsOut, EndsWriting, HasNumb
 
 use crate::{Fault, Gathered, Options, gather};
 use db_builder::{Prepared, prepare};
+use layout_laws::the_file_of_a_database_spells_it;
 use page_access::{Sink, Source};
 use salvage_files::{write_database, write_report, write_script};
 use std::alloc::Global;
@@ -21,8 +22,10 @@ pub struct Summary {
     pub pages_in: u32,
     /// Pages of the database that was written.
     pub pages_out: u32,
-    /// Rows of its tables.
+    /// Rows of the tables that are built.
     pub rows: u64,
+    /// Rows of the table of lost cells.
+    pub lost: u64,
 }
 
 /// Recovers what the input of this name holds: a database goes to `out`, under the name `output`, the texts
@@ -107,6 +110,7 @@ fn write_out<O: Sink, T: Sink, R: Sink>(
     ensures report_name { R.created report.new ≡ R.created report.old }
 {
     let prepared = prepare(alloc, &gathered.db, gathered.page_size, limit)?;
+    the_file_of_a_database_spells_it(gathered.page_size, &gathered.db);
     let output = String::from_str(alloc, output)?;
     let script_name = String::from_str(alloc, script_name)?;
     write_all(gathered, prepared, output, script_name, out, script, report)
@@ -153,7 +157,8 @@ fn write_all<O: Sink, T: Sink, R: Sink>(
     Ok(Summary {
         pages_in: gathered.uses.pages(),
         pages_out,
-        rows: rows_in(&db.tables),
+        rows: rows_in(&db.tables).saturating_sub(gathered.lost),
+        lost: gathered.lost,
     })
 }
 

@@ -1,23 +1,26 @@
 //! Salvages over objects in memory. The file is written by hand from the format.
-ghost use Rattle.std.specs.Prelude.{◌≤◌, ◌^◌};
+ghost use Rattle.std.specs.Prelude.{◌≤◌, ◌^◌, IfOk};
 ghost use Rattle.salvage_core.specs.Plan.{AreOptions};
 
 use crate::{Fault, Options, Summary, recover};
 use page_access::{MemSink, MemSource};
-use std::alloc::Global;
+use record_core::Bytes;
+use std::alloc::{AllocError, Global};
 use std::test::Fail;
 
 // Options of a command without options, with this limit of the load.
-fn options(load_limit: u64) -> Options
+fn options(alloc: Global, load_limit: u64) -> Result<Options, AllocError>
     requires { load_limit ≤ 2 ^ 35 }
-    ensures { AreOptions result }
+    ensures { IfOk result AreOptions }
 {
-    Options {
+    Ok(Options {
         page_size: None,
         reserved: None,
+        freelist_corrupt: false,
+        lost: Bytes::copy_of(alloc, b"lost_and_found")?,
         input_limit: 1 << 28,
         load_limit,
-    }
+    })
 }
 
 // The answer of a salvage of these bytes, and how many bytes it put into the sink of the database.
@@ -34,7 +37,7 @@ fn recovered(
     let mut report = MemSink::new(alloc, 1 << 16, Vec::new(alloc))?;
     let answer = recover(
         alloc,
-        &options(load_limit),
+        &options(alloc, load_limit)?,
         "in.db",
         "out.db",
         "out.sql",
@@ -86,6 +89,7 @@ fn a_file_of_two_pages_comes_back(rt: HostRuntime) -> Result<(), Fail> {
         pages_in: 2,
         pages_out: 2,
         rows: 2,
+        lost: 0,
     };
     assert!(rt; answer == Ok(summary));
     assert_eq!(rt; len, 1024);
@@ -100,6 +104,7 @@ fn an_empty_file_gives_a_database_of_one_page(rt: HostRuntime) -> Result<(), Fai
         pages_in: 0,
         pages_out: 1,
         rows: 0,
+        lost: 0,
     };
     assert!(rt; answer == Ok(summary));
     assert_eq!(rt; len, 4096);

@@ -1,12 +1,9 @@
 use Rattle.std.proofs.Common.{ap, length}
-use Rattle.salvage_core.proofs.Assembling.{no_tables}
+use Rattle.salvage_core.proofs.Assembling.{nothing_is_sound}
 use Rattle.salvage_core.proofs.gathers.gather_nothing.Goals as goal
 
 pub returns-clause-sound : goal.returns-clause-sound
-returns-clause-sound c = record {
-  valid = no_tables _ c.new-4.ensures.items;
-  least = c.empty_size-page_size.ensures.least;
-  most = c.empty_size-page_size.ensures.most;
-  uses = ap (λ t. t.pages) c.in_ok-new.ensures.value;
-  lists = ap (λ t. length t.lists) c.in_ok-new.ensures.value;
-}
+returns-clause-sound c =
+    nothing_is_sound _ c.empty_size-page_size.ensures.valid c.empty_size-page_size.ensures.least c.empty_size-page_size.ensures.most
+    (ap (λ t. t.pages) c.in_ok-new.ensures.value) (ap (λ t. length t.lists) c.in_ok-new.ensures.value)
+    c.new-5.ensures.items c.new-3.ensures.items c.new-4.ensures.items c.new-6.ensures.items c.new-7.ensures.items

@@ -1,5 +1,5 @@
 -- What a recovery leaves (docs/TEXTS.md, "Statuses").
-use Rattle.std.specs.Prelude.{◌≡◌, ◌⊎◌, ◌^◌, ℕ, List, Option, Some, Result, Ok, Err, IfSome, ⊤}
+use Rattle.std.specs.Prelude.{◌≡◌, ◌⊎◌, ◌^◌, ℕ, List, codes, Option, Some, unwrap_or, Result, Ok, Err, IfSome, ⊤}
 use Rattle.command_line.specs.Parts.{Asked, RecoveryAsked, Recovers}
 use Rattle.salvage_core.specs.declared.faults.Fault.{Fault as CoreFault}
 use Rattle.salvage_core.specs.declared.faults.Fault.TheVariants as core
@@ -11,11 +11,17 @@ use Rattle.salvage_cli.specs.Answers.{fault_status, of_core}
 use Rattle.salvage_cli.specs.declared.faults.Fault.{Fault}
 use Rattle.salvage_cli.specs.declared.faults.Fault.TheVariants.{OutputFault, ScriptFault, ReportFault}
 
+-- the name of the table of lost cells, where none is given
+abbrev pub lost_and_found : List ℕ
+lost_and_found = codes "lost_and_found"
+
 -- the options of a recovery, with the limits of the program
 abbrev pub options_of : RecoveryAsked → Options
 options_of r = record {
   page_size = r.input.page_size;
   reserved = r.input.reserved;
+  freelist_corrupt = r.freelist_corrupt;
+  lost = unwrap_or r.lost lost_and_found;
   input_limit = 2 ^ 28;
   load_limit = 2 ^ 32;
 }

@@ -14,6 +14,8 @@ pub use faults::Fault;
 pub use runs::run;
 
 #[cfg(test)]
+mod lost_tests;
+#[cfg(test)]
 mod order_tests;
 #[cfg(test)]
 mod recovery_tests;

@@ -10,11 +10,15 @@ use crate::faults::Fault;
 use command_line::Recovery;
 use input_pages::MAX_INPUT;
 use page_access::{Sink, Source};
+use record_core::Bytes;
 use salvage_core::Options;
 use std::alloc::Global;
 
 // The most load of a database that is written.
 const MAX_LOAD: u64 = 1 << 32;
+
+// The name of the table of lost cells, where none is given.
+const LOST_AND_FOUND: &str = "lost_and_found";
 
 /// Recovers the input: the database, the script and the report are written, in this order.
 pub(crate) fn recover<S: Source, O: Sink, T: Sink, R: Sink>(
@@ -48,9 +52,15 @@ pub(crate) fn recover<S: Source, O: Sink, T: Sink, R: Sink>(
     ensures report_kept { IsBeforeReport result → report.new ≡ report.old }
     ensures report_name { R.created report.new ≡ R.created report.old }
 {
+    let lost = recovery.lost.unwrap_or(LOST_AND_FOUND);
+    let Ok(lost) = Bytes::copy_of(alloc, lost.as_bytes()) else {
+        return Err(Fault::Memory);
+    };
     let options = Options {
         page_size: recovery.input.page_size,
         reserved: recovery.input.reserved,
+        freelist_corrupt: recovery.freelist_corrupt,
+        lost,
         input_limit: MAX_INPUT,
         load_limit: MAX_LOAD,
     };

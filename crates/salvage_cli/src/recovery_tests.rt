@@ -10,12 +10,12 @@ const ROOM: u64 = 1 << 16;
 
 // What a recovery left.
 #[derive(Drop)]
-struct Left {
-    status: u8,
-    output: Vec<u8>,
-    script: Vec<u8>,
-    report: Vec<u8>,
-    errors: Vec<u8>,
+pub(crate) struct Left {
+    pub status: u8,
+    pub output: Vec<u8>,
+    pub script: Vec<u8>,
+    pub report: Vec<u8>,
+    pub errors: Vec<u8>,
 }
 
 // A recovery of these bytes, by sinks that fail so.
@@ -26,7 +26,20 @@ fn recovered(
     script_fails: Vec<MemFail>,
     report_fails: Vec<MemFail>,
 ) -> Result<Left, Fail> {
-    let words = words_of(alloc, &["recover", "a", "b", "c"])?;
+    let words = ["recover", "a", "b", "c"];
+    recovered_by(alloc, &words, bytes, out_fails, script_fails, report_fails)
+}
+
+/// A recovery that these words ask for.
+pub(crate) fn recovered_by(
+    alloc: Global,
+    words: &[&str],
+    bytes: Vec<u8>,
+    out_fails: Vec<MemFail>,
+    script_fails: Vec<MemFail>,
+    report_fails: Vec<MemFail>,
+) -> Result<Left, Fail> {
+    let words = words_of(alloc, words)?;
     let mut src = MemSource::new(bytes, Vec::new(alloc));
     let mut out = MemSink::new(alloc, ROOM, out_fails)?;
     let mut script = MemSink::new(alloc, ROOM, script_fails)?;
@@ -69,7 +82,7 @@ fn two_rows_are_recovered(rt: HostRuntime) -> Result<(), Fail> {
     assert_eq!(rt; left.script.len(), 0);
     assert_eq!(rt;
         left.report.as_slice(),
-        b"geometry 512 0 2 header\ntable t 2 0 0 1\nresult 2\n".as_slice()
+        b"geometry 512 0 2 header\ntable t 2 0 0 1\norphans 0 0\nresult 2\n".as_slice()
     );
     assert_eq!(rt; left.errors.len(), 0);
     Ok(())
@@ -172,7 +185,7 @@ fn an_empty_file_gives_a_database_without_tables(rt: HostRuntime) -> Result<(), 
     assert_eq!(rt; (left.status, left.output.len()), (0, 4096));
     assert_eq!(rt;
         left.report.as_slice(),
-        b"geometry 4096 0 0 empty\nresult 1\n".as_slice()
+        b"geometry 4096 0 0 empty\norphans 0 0\nresult 1\n".as_slice()
     );
     Ok(())
 }

@@ -83,7 +83,7 @@ pub(crate) fn place(bytes: &mut [u8], at: u16, piece: &[u8]) {
 }
 
 // A file of so many pages of 512 bytes, with the schema row of `CREATE TABLE t(a,b)`, root 2.
-fn file_of_t(alloc: Global, pages: u8) -> Result<Vec<u8>, Fail> {
+pub(crate) fn file_of_t(alloc: Global, pages: u8) -> Result<Vec<u8>, Fail> {
     let mut bytes = vec![in alloc; 0u8; 512 * pages as usize]?;
     let all = bytes.as_mut_slice();
     place(all, 0, b"SQLite format 3\0\x02\x00\x01\x01\x00\x40\x20\x20");

@@ -2,6 +2,9 @@
 import os
 import subprocess
 
+# of a recovery whose three files can be written, while there is memory (docs/TEXTS.md, "Statuses")
+STATUSES = {0, 4, 5, 6, 12}
+
 
 def recover(program, path, output, script):
     for made in (output, script):

@@ -60,3 +60,60 @@ def many_tables(path, size, luck):
             db.execute('INSERT INTO t%d(c0) VALUES (%d)' % (i, i))
     db.commit()
     db.close()
+
+
+def varied(path, size, luck):
+    """A small schema of tables, columns and keys drawn by lot, with rows that SQLite lets in."""
+    db = sqlite3.connect(path)
+    db.execute('PRAGMA page_size = %d' % size)
+    for t in range(luck.randrange(1, 6)):
+        text, columns = table_text(t, luck)
+        db.execute(text)
+        for _ in range(luck.choice([0, 1, 5, 60])):
+            row = [small_value(luck) for _ in range(columns)]
+            if 'INTEGER PRIMARY KEY' in text:
+                row[0] = None
+            db.execute('INSERT OR IGNORE INTO t%d VALUES (%s)' % (t, ','.join('?' * columns)), row)
+        if luck.randrange(3) == 0:
+            db.execute('CREATE INDEX i%d ON t%d(c0)' % (t, t))
+        if luck.randrange(3) == 0:
+            db.execute('DELETE FROM t%d WHERE c0 %% 3 = 1' % t)
+    if luck.randrange(2) == 0:
+        db.execute('CREATE VIEW v AS SELECT * FROM t0')
+    db.commit()
+    db.close()
+
+
+def table_text(t, luck):
+    """The text of table `t`, and how many columns it has. Tables that are not built are left out: a key with a column of REAL affinity, and
+    a table WITHOUT ROWID with a further key on the columns of its primary key."""
+    count, lot = luck.choice([1, 2, 3, 7, 20]), luck.randrange(5)
+    further = [' UNIQUE'] if lot != 1 else []
+    parts = []
+    for i in range(count):
+        affinity = luck.choice(['', ' INT', ' TEXT', ' VARCHAR(10)', ' BLOB', ' NUMERIC(3, 2)'])
+        collation = luck.choice(['', '', ' COLLATE NOCASE', ' COLLATE RTRIM', ' COLLATE BINARY'])
+        parts.append('c%d%s%s%s' % (i, affinity, collation, luck.choice(['', '', ' DEFAULT 7'] + further)))
+    constraints, behind = [], ''
+    key = ', '.join('c%d' % i for i in luck.sample(range(count), luck.randrange(1, min(count, 3) + 1)))
+    if lot == 0:
+        parts[0] = 'c0 INTEGER PRIMARY KEY' + luck.choice(['', ' AUTOINCREMENT'])
+    elif lot == 1:
+        constraints = ['PRIMARY KEY(%s)' % key]
+        behind = ' WITHOUT ROWID'
+    elif lot == 2:
+        constraints = ['PRIMARY KEY(%s)' % key, 'UNIQUE(c%d)' % (count - 1)]
+    elif lot == 3:
+        constraints = ['CONSTRAINT one UNIQUE(%s)' % key, 'CHECK (1)']
+    return 'CREATE TABLE t%d(%s)%s' % (t, ', '.join(parts + constraints), behind), count
+
+
+def small_value(luck):
+    """A value that may stand in a key: none of class REAL."""
+    sort = luck.randrange(5)
+    if sort == 0:
+        return None
+    if sort < 3:
+        return luck.choice(WHOLE) if sort == 1 else luck.randrange(100)
+    text = luck.choice(['', 'a', 'A ', 'b\u00e9', 'word']) * luck.choice([1, 1, 3, 300])
+    return text if sort == 3 else text.encode()

@@ -6,11 +6,11 @@ import subprocess
 STATUSES = {0, 4, 5, 6, 12}
 
 
-def recover(program, path, output, script):
+def recover(program, path, output, script, *options):
     for made in (output, script):
         if os.path.exists(made):
             os.remove(made)
-    return subprocess.run([program, 'recover', path, output, script], capture_output=True, timeout=120)
+    return subprocess.run([program, 'recover', path, output, script, *options], capture_output=True, timeout=120)
 
 
 def again(program, output, folder):

@@ -16,6 +16,7 @@ use Rattle.page_walk.specs.Evidence.{AreOnce}
 use Rattle.page_walk.specs.Turns.{ReadsEach}
 use Rattle.page_walk.proofs.Going.{always_told, both_told, one_told}
 use Rattle.page_walk.proofs.Witness.{unused_once}
+use Rattle.tree_uses.proofs.Parts.{part_then}
 use Rattle.orphan_trees.specs.Orphans.{Orphan, ReadsOrphans, is_orphan, orphan_children, orphan_pages, orphan_trees, pages_in, tree_pages, trees_at}
 use Rattle.orphan_trees.specs.Passes.{found_in, unmarked, with_marks}
 use Rattle.orphan_trees.proofs.Lists.{at_most_one, count-filter, count_pages, filter-swap, page_of_unused}
@@ -162,6 +163,13 @@ pub both_moved : (t0 t1 t2 : Table) (first later all_trees : List Orphan) → t1
 both_moved t0 t1 t2 first later all_trees one two joined =
     two ∙ ap (all_moved (pages_in later) 6) one ∙ sym (all_moved-append (pages_in first) (pages_in later) 6 t0)
     ∙ ap (λ (ps : List ℕ). all_moved ps 6 t0) (sym (ap pages_in joined ∙ flat_map-append tree_pages first later))
+
+-- their pages are unused ones, each once
+pub both_part : (t0 t1 : Table) (first later all_trees : List Orphan) → t1 ≡ all_moved (pages_in first) 6 t0 → all_trees ≡ first ++ later
+    → IsPartOf (pages_in first) (unused t0) → IsPartOf (pages_in later) (unused t1) → IsPartOf (pages_in all_trees) (unused t0)
+both_part t0 t1 first later all_trees one joined before behind =
+    subst (λ (ps : List ℕ). IsPartOf ps (unused t0)) (sym (ap pages_in joined ∙ flat_map-append tree_pages first later))
+    (part_then 6 t0 t1 (pages_in first) (pages_in later) (omega arith) one before behind)
 
 -- ---- reads
 

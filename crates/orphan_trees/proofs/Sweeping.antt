@@ -10,11 +10,14 @@ use Rattle.page_access.specs.Cache.{HasAll, IsCacheOf}
 use Rattle.page_access.specs.Files.{file_of}
 use Rattle.page_access.specs.declared.geometry.Geometry.{Geometry}
 use Rattle.page_access.specs.declared.outside.Source as source
+use Rattle.page_lists.specs.Lists.{IsPartOf}
 use Rattle.page_lists.specs.Table.{MovesFront, Table, all_moved, unused}
+use Rattle.page_lists.proofs.Counts.{part_none}
 use Rattle.page_lists.proofs.Uses.{all_moved-append}
 use Rattle.page_walk.specs.Turns.{ReadsEach}
 use Rattle.page_walk.proofs.Going.{both_told, one_told}
 use Rattle.page_walk.proofs.InTurn.{Moment, Stepped, Stepping, Steps, stepping_more, stepping_reads, stepping_start, stepping_value}
+use Rattle.tree_uses.proofs.Parts.{part_more}
 use Rattle.orphan_trees.specs.Orphans.{IsOrphanOf, Orphan, pages_in, tree_at, tree_pages, trees_at}
 use Rattle.orphan_trees.specs.Passes.{found_in, has_mark, has_pages, unmarked}
 use Rattle.orphan_trees.proofs.Marking.{range_next}
@@ -42,6 +45,7 @@ pub record Sweeping {S : Type 0} (s : source.Ghosts S) (geo : Geometry) (marks :
   pub done : List Orphan
   pub steps : Stepping s geo (walks_of geo) (all_roots geo marks) (roots_behind geo marks i) first now done
   pub full : HasAll first.cache → HasAll now.cache × (now.src ≡ first.src)
+  pub part : IsPartOf (pages_in done) (unused first.table)
   pub found_are : found ≡ found_in done
 
 pub sweeping_start : {S : Type 0} (s : source.Ghosts S) (geo : Geometry) (marks : List Bool) (m : Moment S) (found : List Orphan) → found ≡ []
@@ -52,6 +56,7 @@ sweeping_start s geo marks m found none cached =
       steps = subst (λ (n : ℕ). Stepping s geo (walks_of geo) (all_roots geo marks) (unmarked marks (range_with_len 1 n)) m m []) whole
           (stepping_start s geo (walks_of geo) (all_roots geo marks) m cached);
       full = λ all. (all, refl);
+      part = part_none (unused m.table);
       found_are = none;
     }
 
@@ -74,6 +79,7 @@ sweeping_past {s = s} {geo} {marks} {i} {first} {now} {found} was lt some = reco
   done = was.done;
   steps = subst (λ (left : List ℕ). Stepping s geo (walks_of geo) (all_roots geo marks) left first now was.done) (roots_passed geo marks i lt some) was.steps;
   full = was.full;
+  part = was.part;
   found_are = was.found_are;
 }
 
@@ -81,11 +87,12 @@ sweeping_past {s = s} {geo} {marks} {i} {first} {now} {found} was lt some = reco
 pub sweeping_more : {S : Type 0} {s : source.Ghosts S} {geo : Geometry} {marks : List Bool} {i : ℕ} {first now : Moment S} {found : List Orphan}
     (now' : Moment S) (t : Orphan) (found' : List Orphan) → Sweeping s geo marks i first now found → i < geo.pages → has_mark marks (i + 1) ≡ false
     → Stepped s geo (walks_of geo) (i + 1) now now' t → (HasAll now.cache → HasAll now'.cache × (now'.src ≡ now.src))
-    → found' ≡ found ++ found_in (t ∷ []) → Sweeping s geo marks (i + 1) first now' found'
-sweeping_more {s = s} {geo} {marks} {i} {first} {now} {found} now' t found' was lt none step full pushed = record {
+    → IsPartOf t.pages (unused now.table) → found' ≡ found ++ found_in (t ∷ []) → Sweeping s geo marks (i + 1) first now' found'
+sweeping_more {s = s} {geo} {marks} {i} {first} {now} {found} now' t found' was lt none step full part pushed = record {
   done = was.done ++ t ∷ [];
   steps = stepping_more now' (i + 1) (roots_behind geo marks (i + 1)) t (was.done ++ t ∷ []) was.steps (omega arith) (roots_kept geo marks i lt none) refl step;
   full = λ all. let before = was.full all in let after = full before.0 in (after.0, after.1 ∙ before.1);
+  part = part_more tree_pages 6 first.table now.table was.done t (was.done ++ t ∷ []) (omega arith) was.steps.moved refl was.part part;
   found_are = pushed ∙ ap (λ (ts : List Orphan). ts ++ found_in (t ∷ [])) was.found_are ∙ sym (filter-append has_pages was.done (t ∷ []));
 }
 
@@ -108,6 +115,11 @@ pub sweeping_moved : {S : Type 0} {s : source.Ghosts S} {geo : Geometry} {marks 
     → Sweeping s geo marks i first now found → now.table ≡ all_moved (pages_in found) 6 first.table
 sweeping_moved {first = first} {found = found} was =
     was.steps.moved ∙ ap (λ (ps : List ℕ). all_moved ps 6 first.table) (sym (ap pages_in was.found_are ∙ found_pages was.done))
+
+pub sweeping_part : {S : Type 0} {s : source.Ghosts S} {geo : Geometry} {marks : List Bool} {i : ℕ} {first now : Moment S} {found : List Orphan}
+    → Sweeping s geo marks i first now found → IsPartOf (pages_in found) (unused first.table)
+sweeping_part {first = first} was =
+    subst (λ (ps : List ℕ). IsPartOf ps (unused first.table)) (sym (ap pages_in was.found_are ∙ found_pages was.done)) was.part
 
 all_found : (n : ℕ) (ts : List Orphan) → AllByRecursion (IsOrphanOf n) ts → AllByRecursion (IsOrphanOf n) (found_in ts)
 all_found n [] all = tt

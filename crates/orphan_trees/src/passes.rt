@@ -5,6 +5,7 @@ ghost use Rattle.page_access.specs.Cache.{HasAll, IsCacheOf};
 ghost use Rattle.page_access.specs.Files.{file_of};
 ghost use Rattle.page_access.specs.Outside.{HasCauseOf, KeepsSource};
 ghost use Rattle.page_access.specs.declared.outside.ReadFault.TheVariants as faults;
+ghost use Rattle.page_lists.specs.Lists.{IsPartOf};
 ghost use Rattle.page_lists.specs.Table.{Moves, MovesFront, all_moved, unused};
 ghost use Rattle.page_walk.specs.Turns.{ReadsEach};
 ghost use Rattle.page_walk.specs.Walk.{kinds_of};
@@ -40,6 +41,8 @@ pub fn walk_unmarked<S: Source>(
         ≡ found_in (trees_at (file_of all geo.now) (roots_of marks.now geo.now.pages) (unused table.old)))) }
     ensures moved { IfOk result
         (λ v. table.new ≡ all_moved (pages_in (map orphan_of v.items)) 6 table.old) }
+    ensures part { IfOk result
+        (λ v. IsPartOf (pages_in (map orphan_of v.items)) (unused table.old)) }
     ensures bound { IfOk result
         (λ v. AllByRecursion (IsOrphanOf geo.now.pages) (map orphan_of v.items)) }
     ensures front { IfSome (S.bytes src.old) (λ all. MovesFront (pages_in (trees_at (file_of all geo.now)
@@ -92,6 +95,7 @@ fn walk_orphan<S: Source>(
     ensures value { IfOk result (λ t. IfSome (S.bytes src.old) (λ all.
         orphan_of t ≡ tree_at (file_of all geo.now) root (unused table.old))) }
     ensures moved { IfOk result (λ t. table.new ≡ all_moved (orphan_of t).pages 6 table.old) }
+    ensures part { IfOk result (λ t. IsPartOf (orphan_of t).pages (unused table.old)) }
     ensures bound { IfOk result (λ t. IsOrphanOf geo.now.pages (orphan_of t)) }
     ensures front { IfSome (S.bytes src.old) (λ all. MovesFront
         (tree_at (file_of all geo.now) root (unused table.old)).pages 6 table.old table.new) }

@@ -5,6 +5,7 @@ ghost use Rattle.page_access.specs.Cache.{HasAll, IsCacheOf};
 ghost use Rattle.page_access.specs.Files.{file_of};
 ghost use Rattle.page_access.specs.Outside.{HasCauseOf, KeepsSource};
 ghost use Rattle.page_access.specs.declared.outside.ReadFault.TheVariants as faults;
+ghost use Rattle.page_lists.specs.Lists.{IsPartOf};
 ghost use Rattle.page_lists.specs.Table.{Moves, MovesFront, all_moved, unused};
 ghost use Rattle.page_walk.specs.Walk.{kinds_of};
 ghost use Rattle.orphan_trees.specs.Orphans.{IsOrphanOf, ReadsOrphans, orphan_of, orphan_trees, pages_in};
@@ -46,7 +47,9 @@ pub fn orphans<S: Source>(
         map orphan_of v.items ≡ orphan_trees (file_of all geo.now) (unused table.old))) }
     ensures moved { IfOk result
         (λ v. table.new ≡ all_moved (pages_in (map orphan_of v.items)) 6 table.old) }
-    // told or not
+    // told or not: unused pages of the file, each once
+    ensures part { IfOk result
+        (λ v. IsPartOf (pages_in (map orphan_of v.items)) (unused table.old)) }
     ensures bound { IfOk result
         (λ v. AllByRecursion (IsOrphanOf geo.now.pages) (map orphan_of v.items)) }
     // at every exit

@@ -1,10 +1,10 @@
 -- Turns over the pages of trees, tree by tree and joined.
-use Rattle.std.proofs.Common.{◌≡◌, ◌≤◌, ◌⊎◌, inl, inr, ℕ, zero, suc, Option, Some, None, List, [], ◌∷◌, ◌++◌, length, take, drop, refl, sym, ◌∙◌, ap, arith, append_assoc, append-nil, length-append}
+use Rattle.std.proofs.Common.{◌≡◌, ◌≤◌, ◌⊎◌, inl, inr, ℕ, ◌+◌, zero, suc, Option, Some, None, List, [], ◌∷◌, ◌++◌, length, map, take, drop, refl, sym, ◌∙◌, ap, arith, append_assoc, append-nil, length-append}
 use Rattle.std.specs.Prelude.{ℤ}
 use Rattle.std.specs.List.{AllByRecursion, flat_map}
 use Rattle.std.proofs.Math.Seq.{take-append_seam, drop-append_seam}
 use Rattle.std.proofs.lemmas.Grind.{flat_map-append}
-use Rattle.std.proofs.lemmas.List.{drop_all, length-drop, take_all, take-append-drop}
+use Rattle.std.proofs.lemmas.List.{drop_all, length-drop, length-take-le, take_all, take-append-drop}
 use Rattle.page_access.specs.Pages.{File}
 use Rattle.page_access.proofs.Pairs.{all_taken}
 use Rattle.page_lists.specs.Lists.{IsPartOf, minus}
@@ -81,6 +81,17 @@ split_all P (t ∷ trees) turns all =
 pub split_len : {X : Type 0} (trees : List Tree) (turns : List X) → length (split_turns trees turns) ≡ length trees
 split_len [] turns = refl
 split_len (t ∷ trees) turns = omega (arith, split_len trees (drop (length t.pages) turns))
+
+-- there is one for each page of each tree
+pub split_each : {X : Type 0} (trees : List Tree) (turns : List X) → length turns ≡ length (pages_in trees)
+    → map (λ (ts : List X). length ts) (split_turns trees turns) ≡ map (λ (t : Tree). length t.pages) trees
+split_each [] turns len = refl
+split_each {X} (t ∷ trees) turns len =
+    let both : length t.pages + length (pages_in trees) ≡ length turns = sym (length-append t.pages (pages_in trees)) ∙ sym len in
+    let here : length (take (length t.pages) turns) ≡ length t.pages = length-take-le (length t.pages) turns (omega (arith, both)) in
+    ap (λ (n : ℕ). n ∷ map (λ (ts : List X). length ts) (split_turns trees (drop (length t.pages) turns))) here
+    ∙ ap (λ (ns : List ℕ). length t.pages ∷ ns)
+    (split_each trees (drop (length t.pages) turns) (omega (arith, both, length-drop (length t.pages) turns)))
 
 tree_part : (f : File) (root : ℤ) (kind : Option Kind) (unused : List ℕ) → IsPartOf (walk_for f unused root kind) unused
 tree_part f root None u = part_none u

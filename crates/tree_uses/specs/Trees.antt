@@ -1,6 +1,6 @@
 -- Trees that are walked one after another, and the turns of the cells on their pages (docs/ARCHITECTURE.md, "Order of
 -- use").
-use Rattle.std.specs.Prelude.{ℕ, ℤ, Option, Some, None, List, [], ◌∷◌, map, take, drop, length}
+use Rattle.std.specs.Prelude.{◌≡◌, ℕ, ℤ, Option, Some, None, List, [], ◌∷◌, map, take, drop, length}
 use Rattle.std.specs.List.{flat_map}
 use Rattle.page_access.specs.Pages.{File}
 use Rattle.cell_reader.specs.declared.shapes.Kind.{Kind}
@@ -69,6 +69,10 @@ turns_for f t unused = turns_on f t.pages unused
 -- the same of trees, each over the pages that those before left unused
 abbrev pub turns_in : File → List Tree → List ℕ → List (List (ℕ × List Outcome))
 turns_in f trees unused = in_turn (turns_for f) chains_in trees unused
+
+-- there is a turn for each page of each tree
+abbrev pub HaveTurns : List Tree → List (List (ℕ × List Outcome)) → Type 0
+HaveTurns trees turns = map (λ (ts : List (ℕ × List Outcome)). length ts) turns ≡ map (λ (t : Tree). length t.pages) trees
 
 -- turns over the pages of trees, tree after tree, tree by tree
 abbrev pub split_turns : {X : Type 0} → List Tree → List X → List (List X)

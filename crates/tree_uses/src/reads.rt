@@ -9,7 +9,7 @@ ghost use Rattle.page_access.specs.declared.outside.ReadFault.TheVariants as fau
 ghost use Rattle.page_lists.specs.Table.{Moves, all_moved, unused};
 ghost use Rattle.page_walk.specs.InTurn.{IsSmallTurn, turn_of};
 ghost use Rattle.page_walk.specs.Turns.{ReadsEach};
-ghost use Rattle.tree_uses.specs.Trees.{IsTreeOf, chains_in, pages_in, split_turns, tree_of, turns_in, turns_of};
+ghost use Rattle.tree_uses.specs.Trees.{HaveTurns, IsTreeOf, chains_in, pages_in, split_turns, tree_of, turns_in, turns_of};
 
 use crate::walks::TreeUse;
 use page_access::{Geometry, PageCache, ReadFault, Source};
@@ -46,6 +46,8 @@ pub fn read_trees<S: Source>(
     ensures small { IfOk result (λ v. AllByRecursion
         (AllByRecursion (IsSmallTurn geo.now.usable geo.now.pages)) (map turns_of v.items)) }
     ensures len { IfOk result (λ v. length v.items ≡ length trees.now) }
+    ensures each { IfOk result
+        (λ v. HaveTurns (map tree_of trees.now) (map turns_of v.items)) }
     ensures cause { HasCauseOf faults.Source (S.faults src.old) (S.faults src.new) result }
     ensures kept { KeepsSource S.bytes S.attached S.faults S.reads src.old src.new }
     ensures moves { Moves 4 table.old table.new }

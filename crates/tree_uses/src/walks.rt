@@ -5,6 +5,7 @@ ghost use Rattle.page_access.specs.Cache.{HasAll, IsCacheOf};
 ghost use Rattle.page_access.specs.Files.{file_of};
 ghost use Rattle.page_access.specs.Outside.{HasCauseOf, KeepsSource};
 ghost use Rattle.page_access.specs.declared.outside.ReadFault.TheVariants as faults;
+ghost use Rattle.page_lists.specs.Lists.{IsPartOf};
 ghost use Rattle.page_lists.specs.Table.{Moves, all_moved, unused};
 ghost use Rattle.page_walk.specs.Turns.{ReadsEach};
 ghost use Rattle.page_walk.specs.Walk.{kinds_of};
@@ -54,6 +55,7 @@ fn walk_one<S: Source>(
     ensures value { IfOk result (λ t. IfSome (S.bytes src.old) (λ all.
         tree_of t ≡ tree_for (file_of all geo.now) list wanted.now (unused table.old))) }
     ensures moved { IfOk result (λ t. table.new ≡ all_moved (tree_of t).pages list table.old) }
+    ensures part { IfOk result (λ t. IsPartOf (tree_of t).pages (unused table.old)) }
     ensures bound { IfOk result (λ t. IsTreeOf geo.now.pages (tree_of t)) }
     ensures row { IfOk result (λ t. t.row ≡ wanted.now.row) }
     ensures cause { HasCauseOf faults.Source (S.faults src.old) (S.faults src.new) result }
@@ -110,6 +112,9 @@ pub fn walk_trees<S: Source>(
         map tree_of v.items ≡ walks (file_of all geo.now) list wanted.now (unused table.old))) }
     ensures moved { IfOk result
         (λ v. table.new ≡ all_moved (pages_in (map tree_of v.items)) list table.old) }
+    // told or not: unused pages of the file, each once
+    ensures part { IfOk result
+        (λ v. IsPartOf (pages_in (map tree_of v.items)) (unused table.old)) }
     ensures bound { IfOk result
         (λ v. AllByRecursion (IsTreeOf geo.now.pages) (map tree_of v.items)) }
     ensures len { IfOk result (λ v. length v.items ≡ length wanted.now) }

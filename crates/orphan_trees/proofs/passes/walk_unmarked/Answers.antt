@@ -4,7 +4,7 @@ use Rattle.page_lists.proofs.Uses.{Moves-append}
 use Rattle.page_walk.specs.Turns.{ReadsEach}
 use Rattle.page_walk.proofs.Walking.{no_reads}
 use Rattle.orphan_trees.specs.Orphans.{orphan_of}
-use Rattle.orphan_trees.proofs.Sweeping.{sweeping_all, sweeping_bound, sweeping_front, sweeping_more, sweeping_moved, sweeping_past, sweeping_value}
+use Rattle.orphan_trees.proofs.Sweeping.{sweeping_all, sweeping_bound, sweeping_front, sweeping_more, sweeping_moved, sweeping_part, sweeping_past, sweeping_value}
 use Rattle.orphan_trees.proofs.passes.walk_unmarked.Goals as goal
 
 pub loop-before-preserved-then-has_mark : goal.loop-before-preserved-then-has_mark
@@ -32,7 +32,7 @@ loop-before-preserved g c =
       );
       value = c.in_ok-tree.ensures.value;
     })
-    c.walk_orphan.ensures.full c.in_ok-push_found.ensures
+    c.walk_orphan.ensures.full c.in_ok-tree.ensures.part c.in_ok-push_found.ensures
 
 pub returns-in_err-tree-clause-front : goal.returns-in_err-tree-clause-front
 returns-in_err-tree-clause-front g c =
@@ -55,6 +55,9 @@ returns-clause-value g c = sweeping_value c.loop-before.invariant (omega arith)
 
 pub returns-clause-moved : goal.returns-clause-moved
 returns-clause-moved g c = sweeping_moved c.loop-before.invariant
+
+pub returns-clause-part : goal.returns-clause-part
+returns-clause-part g c = sweeping_part c.loop-before.invariant
 
 pub returns-clause-bound : goal.returns-clause-bound
 returns-clause-bound g c = sweeping_bound c.loop-before.invariant

@@ -7,7 +7,7 @@ use Rattle.page_walk.proofs.Going.{one_told}
 use Rattle.page_walk.proofs.InTurn.{at_err, reads_more, reads_weaker}
 use Rattle.orphan_trees.specs.Orphans.{ReadsOrphans, orphan_children, orphan_of}
 use Rattle.orphan_trees.specs.Passes.{with_marks}
-use Rattle.orphan_trees.proofs.Both.{both_moved, first_told, later_told, none_told, reads_told, value_told}
+use Rattle.orphan_trees.proofs.Both.{both_moved, both_part, first_told, later_told, none_told, reads_told, value_told}
 use Rattle.orphan_trees.proofs.trees.orphans.Goals as goal
 
 pub returns-in_err-marks-clause-front : goal.returns-in_err-marks-clause-front
@@ -155,3 +155,10 @@ returns-clause-reads g c =
     (later_told o o1 (g.S.Source.bytes c.walk_unmarked.new.src) geo c.args.table.now c.walk_unmarked.new.table c.walk_unmarked-2.new.table c.deref.result.now c.deref-2.result.now (map orphan_of c.in_ok-trees.trees.items) c.mark_children.ensures.kept.told (c.walk_unmarked.ensures.kept.told ∙ c.mark_children.ensures.kept.told) c.pages-pages.ensures.partition c.requires.same_pages
     marked none c.in_ok-trees.ensures.value c.in_ok-trees.ensures.moved c.walk_unmarked-2.ensures.front)
     (reads_more o1 (g.S.Source.bytes c.walk_unmarked.new.src) geo c.args.table.now c.walk_unmarked.new.table c.walk_unmarked-2.new.table (g.S.Source.reads c.mark_children.new.src) (g.S.Source.reads c.walk_unmarked.new.src) (g.S.Source.reads c.walk_unmarked-2.new.src) 0 0 c.walk_unmarked.ensures.kept.told c.in_ok-trees.ensures.reads c.in_ok-later.ensures.reads)
+
+pub returns-clause-part : goal.returns-clause-part
+returns-clause-part g c =
+    both_part c.args.table.now c.walk_unmarked.new.table (map orphan_of c.in_ok-trees.trees.items) (map orphan_of c.in_ok-later.later.items)
+    (map orphan_of c.append.new.self.items) c.in_ok-trees.ensures.moved
+    (ap (map orphan_of) c.in_ok-append.ensures.items ∙ map-append orphan_of c.in_ok-trees.trees.items c.in_ok-later.later.items)
+    c.in_ok-trees.ensures.part c.in_ok-later.ensures.part

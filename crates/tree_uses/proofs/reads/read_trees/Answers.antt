@@ -7,8 +7,8 @@ use Rattle.page_walk.specs.Bounds.{ArePages}
 use Rattle.page_walk.specs.InTurn.{IsSmallTurn, turn_of}
 use Rattle.page_walk.specs.Turns.{turns_on}
 use Rattle.page_walk.proofs.Going.{one_told}
-use Rattle.tree_uses.specs.Trees.{chains_in, pages_in, split_turns, tree_of, turns_in, turns_of}
-use Rattle.tree_uses.proofs.Splits.{pages_are, split_all, split_are, split_chains, split_len}
+use Rattle.tree_uses.specs.Trees.{HaveTurns, chains_in, pages_in, split_turns, tree_of, turns_in, turns_of}
+use Rattle.tree_uses.proofs.Splits.{pages_are, split_all, split_are, split_chains, split_each, split_len}
 use Rattle.tree_uses.proofs.reads.read_trees.Goals as goal
 
 pub read_turns-requires-clause-pages : goal.read_turns-requires-clause-pages
@@ -46,3 +46,11 @@ pub returns-clause-len : goal.returns-clause-len
 returns-clause-len g c =
     sym (length-map c.in_ok-split_turns.field-0.items turns_of) ∙ ap length c.in_ok-split_turns.ensures
     ∙ split_len (map tree_of c.args.trees.now) (map turn_of c.in_ok-turns.turns.items) ∙ length-map c.args.trees.now tree_of
+
+pub returns-clause-each : goal.returns-clause-each
+returns-clause-each g c =
+    let trees = map tree_of c.args.trees.now in
+    let turns = map turn_of c.in_ok-turns.turns.items in
+    let same : c.deref.result.now ≡ pages_in trees = c.deref.ensures.value ∙ c.in_ok-pages.ensures in
+    let len : length turns ≡ length (pages_in trees) = length-map c.in_ok-turns.turns.items turn_of ∙ c.in_ok-turns.ensures.len ∙ ap length same in
+    subst (HaveTurns trees) (sym c.in_ok-split_turns.ensures) (split_each trees turns len)

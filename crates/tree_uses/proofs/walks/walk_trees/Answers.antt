@@ -2,8 +2,9 @@ use Rattle.std.proofs.Common.{ℕ, List, ◌+◌, ◌∷◌, [], ◌∙◌, ap, 
 use Rattle.std.proofs.lemmas.List.{drop_more, map-append}
 use Rattle.page_access.proofs.Keeps.{not_failed}
 use Rattle.page_lists.proofs.Uses.{Moves-append}
-use Rattle.tree_uses.specs.Trees.{tree_of, tree_row, wanted_row}
+use Rattle.tree_uses.specs.Trees.{pages_of, tree_of, tree_row, wanted_row}
 use Rattle.tree_uses.specs.declared.walks.TreeUse.{TreeUse}
+use Rattle.tree_uses.proofs.Parts.{part_more}
 use Rattle.tree_uses.proofs.Splits.{one_more}
 use Rattle.page_walk.proofs.InTurn.{stepping_more}
 use Rattle.tree_uses.proofs.walks.walk_trees.Goals as goal
@@ -34,6 +35,10 @@ loop-tree-preserved g c = record {
         full = c.walk_one.ensures.full;
         value = c.in_ok-pages.ensures.value;
       });
+  part = part_more pages_of c.args.list c.args.table.now c.loop-tree.table (map tree_of c.loop-tree.trees.items) (tree_of c.in_ok-pages.pages)
+      (map tree_of c.push.new.self.items) c.requires.list_least c.loop-tree.invariant.steps.moved
+      (ap (map tree_of) c.in_ok-push.ensures.items ∙ map-append tree_of c.loop-tree.trees.items (c.in_ok-pages.pages ∷ []))
+      c.loop-tree.invariant.part c.in_ok-pages.ensures.part;
   rows = one_more (map tree_row (map tree_of c.loop-tree.trees.items)) (map tree_row (map tree_of c.push.new.self.items))
       (map wanted_row (drop c.loop-tree.tree-index c.args.wanted.now)) (map wanted_row (drop (c.loop-tree.tree-index + 1) c.args.wanted.now)) _ _
       (ap (λ (ts : List TreeUse). map tree_row (map tree_of ts)) c.in_ok-push.ensures.items

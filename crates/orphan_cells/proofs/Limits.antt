@@ -89,7 +89,7 @@ page_roots pages root page (Unread u ∷ os) is =
     all_append (RootOn pages) (failed_one root page (Unread u)) (flat_map (failed_one root page) os) (chosen_root pages (has_failed u.cause) _ is)
     (page_roots pages root page os is)
 
-turn_roots : (pages root : ℕ) (turns : List (ℕ × List Outcome)) → IsRootOn pages root → AllByRecursion (RootOn pages) (tree_failed root turns)
+pub turn_roots : (pages root : ℕ) (turns : List (ℕ × List Outcome)) → IsRootOn pages root → AllByRecursion (RootOn pages) (tree_failed root turns)
 turn_roots pages root [] is = tt
 turn_roots pages root (t ∷ turns) is =
     all_append (RootOn pages) (failed_on root t) (tree_failed root turns) (page_roots pages root t.0 t.1 is) (turn_roots pages root turns is)

@@ -1,8 +1,9 @@
 -- A loop over orphan trees, whose cells take their turns.
-use Rattle.std.proofs.Common.{◌≡◌, ◌≤◌, ℕ, ◌+◌, List, [], ◌∷◌, ◌++◌, length, refl, sym, ◌∙◌, ap, subst, arith, append_assoc, append-nil, length-append}
+use Rattle.std.proofs.Common.{◌≡◌, ◌≤◌, ℕ, ◌+◌, List, [], ◌∷◌, ◌++◌, length, map, refl, sym, ◌∙◌, ap, subst, arith, append_assoc, append-nil, length-append}
 use Rattle.std.specs.Prelude.{IfSome}
 use Rattle.std.specs.List.{AllByRecursion, flat_map}
 use Rattle.std.proofs.lemmas.Grind.{flat_map-append}
+use Rattle.std.proofs.lemmas.List.{map-append}
 use Rattle.page_access.specs.declared.geometry.Geometry.{Geometry}
 use Rattle.page_access.specs.declared.outside.Source as source
 use Rattle.page_access.specs.Cache.{HasAll, IsCacheOf}
@@ -20,7 +21,15 @@ use Rattle.page_walk.proofs.Going.{all_append, always_told, both_told, one_told}
 use Rattle.page_walk.proofs.InTurn.{Moment, reads_more, reads_none, reads_weaker}
 use Rattle.tree_uses.specs.Trees.{chains_in}
 use Rattle.orphan_trees.specs.Orphans.{IsOrphanOf, Orphan, pages_in}
-use Rattle.orphan_uses.specs.Order.{orphan_turns, turns_at}
+use Rattle.tree_uses.proofs.Splits.{one_more}
+use Rattle.orphan_uses.specs.Order.{HaveOrphanTurns, orphan_turns, turns_at}
+
+-- how many turns each tree has, and how many pages
+abbrev turn_counts : List (List (ℕ × List Outcome)) → List ℕ
+turn_counts turns = map (λ (ts : List (ℕ × List Outcome)). length ts) turns
+
+abbrev page_counts : List Orphan → List ℕ
+page_counts trees = map (λ (t : Orphan). length t.pages) trees
 
 -- the cells of one tree took their turns
 pub record Turned {S : Type 0} (s : source.Ghosts S) (geo : Geometry) (t : Orphan) (old new : Moment S) (x : List (ℕ × List Outcome)) : Type 0 where
@@ -30,6 +39,7 @@ pub record Turned {S : Type 0} (s : source.Ghosts S) (geo : Geometry) (t : Orpha
   pub moves : Moves 4 old.table new.table
   pub moved : new.table ≡ all_moved (chains_in x) 4 old.table
   pub small : AllByRecursion (IsSmallTurn geo.usable geo.pages) x
+  pub len : length x ≡ length t.pages
   pub read : ReadsEach (s.bytes old.src) geo old.table new.table (s.reads old.src) (s.reads new.src) (length t.pages + 0)
   pub full : HasAll old.cache → HasAll new.cache × ReadsEach (s.bytes old.src) geo old.table new.table (s.reads old.src) (s.reads new.src) 0
   pub value : IfSome (s.bytes old.src) (λ all. x ≡ turns_at (file_of all geo) t (unused old.table))
@@ -44,6 +54,7 @@ pub record Turning {S : Type 0} (s : source.Ghosts S) (geo : Geometry) (trees le
   pub small : AllByRecursion (AllByRecursion (IsSmallTurn geo.usable geo.pages)) done
   pub bound : AllByRecursion (IsOrphanOf geo.pages) left
   pub count : length done + length left ≡ length trees
+  pub each : turn_counts done ++ page_counts left ≡ page_counts trees
   pub read : IfSome (s.bytes first.src) (λ all. IsWhole all geo → s.reads now.src + length (unused now.table) + length (pages_in left)
       ≤ s.reads first.src + length (unused first.table) + length (pages_in trees))
   pub full : HasAll first.cache → HasAll now.cache × ReadsEach (s.bytes first.src) geo first.table now.table (s.reads first.src) (s.reads now.src) 0
@@ -60,6 +71,7 @@ turning_start s geo trees m bound cached = record {
   small = tt;
   bound = bound;
   count = omega arith;
+  each = refl;
   read = always_told (λ all. IsWhole all geo → s.reads m.src + length (unused m.table) + length (pages_in trees)
       ≤ s.reads m.src + length (unused m.table) + length (pages_in trees)) (s.bytes m.src) (λ all whole. omega arith);
   full = λ all. (all, reads_none (s.bytes m.src) geo m.table (s.reads m.src));
@@ -94,6 +106,10 @@ turning_more {S} {s = s} {geo} {trees} {left} {first} {now} {done} now' t rest x
           (all_append (AllByRecursion (IsSmallTurn geo.usable geo.pages)) done (x ∷ []) was.small (step.small, tt));
       bound = (subst (AllByRecursion (IsOrphanOf geo.pages)) next was.bound).1;
       count = omega (arith, was.count, ap (λ (ts : List Orphan). length ts) next, more);
+      each = one_more (turn_counts done) (turn_counts done') (page_counts left) (page_counts rest) (page_counts trees) (length t.pages)
+          (ap turn_counts pushed ∙ map-append (λ (ts : List (ℕ × List Outcome)). length ts) done (x ∷ [])
+          ∙ ap (λ (n : ℕ). turn_counts done ++ n ∷ []) step.len)
+          (ap page_counts next) was.each;
       read = both_told
           (λ all. IsWhole all geo → s.reads now.src + length (unused now.table) + length (pages_in left)
           ≤ s.reads first.src + length (unused first.table) + length (pages_in trees))
@@ -132,6 +148,11 @@ turning_value {s = s} {geo} {trees} {left} {first} {now} {done} was end =
     one_told (λ all. done ++ orphan_turns (file_of all geo) left (unused now.table) ≡ orphan_turns (file_of all geo) trees (unused first.table))
     (λ all. done ≡ orphan_turns (file_of all geo) trees (unused first.table)) (s.bytes first.src)
     (λ all p. sym (append-nil done) ∙ ap (λ (ts : List Orphan). done ++ orphan_turns (file_of all geo) ts (unused now.table)) (sym end) ∙ p) was.value
+
+pub turning_each : {S : Type 0} {s : source.Ghosts S} {geo : Geometry} {trees left : List Orphan} {first now : Moment S} {done : List (List (ℕ × List Outcome))}
+    → Turning s geo trees left first now done → left ≡ [] → HaveOrphanTurns trees done
+turning_each {done = done} was end =
+    sym (append-nil (turn_counts done)) ∙ ap (λ (ts : List Orphan). turn_counts done ++ page_counts ts) (sym end) ∙ was.each
 
 -- the reads of the trees before, and of one more
 pub turning_reads : {S : Type 0} {s : source.Ghosts S} {geo : Geometry} {trees left : List Orphan} {first now : Moment S} {done : List (List (ℕ × List Outcome))}

@@ -1,6 +1,6 @@
 -- The uses of the pages that the schema and its trees leave: the freelist, the orphan trees, and the overflow chains of the
 -- orphan trees' cells (docs/ARCHITECTURE.md, "Order of use").
-use Rattle.std.specs.Prelude.{◌≡◌, ℕ, Option, Some, None, List, []}
+use Rattle.std.specs.Prelude.{◌≡◌, ℕ, Option, Some, None, List, [], length, map}
 use Rattle.std.specs.List.{flat_map}
 use Rattle.page_access.specs.Pages.{File}
 use Rattle.page_lists.specs.Lists.{minus}
@@ -31,6 +31,10 @@ turns_at f t unused = turns_on f t.pages unused
 -- the same of orphan trees, each over the pages that those before left unused
 abbrev pub orphan_turns : File → List Orphan → List ℕ → List (List (ℕ × List Outcome))
 orphan_turns f trees unused = in_turn (turns_at f) chains_in trees unused
+
+-- there is a turn for each page of each tree
+abbrev pub HaveOrphanTurns : List Orphan → List (List (ℕ × List Outcome)) → Type 0
+HaveOrphanTurns trees turns = map (λ (ts : List (ℕ × List Outcome)). length ts) turns ≡ map (λ (t : Orphan). length t.pages) trees
 
 -- The orphan trees of a file, where these pages are unused at first and the freelist takes its pages of them before; and what
 -- becomes of the cells of each tree, over the pages that the trees leave.

@@ -10,7 +10,7 @@ ghost use Rattle.page_walk.specs.InTurn.{IsSmallTurn};
 ghost use Rattle.page_walk.specs.Turns.{ReadsEach};
 ghost use Rattle.tree_uses.specs.Trees.{chains_in, turns_of};
 ghost use Rattle.orphan_trees.specs.Orphans.{IsOrphanOf, orphan_of, pages_in};
-ghost use Rattle.orphan_uses.specs.Order.{orphan_turns, turns_at};
+ghost use Rattle.orphan_uses.specs.Order.{HaveOrphanTurns, orphan_turns, turns_at};
 
 use orphan_trees::OrphanTree;
 use page_access::{Geometry, PageCache, ReadFault, Source};
@@ -41,6 +41,8 @@ pub(crate) fn read_orphans<S: Source>(
     ensures small { IfOk result (λ v. AllByRecursion
         (AllByRecursion (IsSmallTurn geo.now.usable geo.now.pages)) (map turns_of v.items)) }
     ensures len { IfOk result (λ v. length v.items ≡ length trees.now) }
+    ensures each { IfOk result
+        (λ v. HaveOrphanTurns (map orphan_of trees.now) (map turns_of v.items)) }
     ensures cause { HasCauseOf faults.Source (S.faults src.old) (S.faults src.new) result }
     ensures kept { KeepsSource S.bytes S.attached S.faults S.reads src.old src.new }
     ensures moves { Moves 4 table.old table.new }
@@ -77,6 +79,7 @@ fn read_orphan<S: Source>(
     ensures moved { IfOk result (λ t. table.new ≡ all_moved (chains_in (turns_of t)) 4 table.old) }
     ensures small { IfOk result
         (λ t. AllByRecursion (IsSmallTurn geo.now.usable geo.now.pages) (turns_of t)) }
+    ensures len { IfOk result (λ t. length (turns_of t) ≡ length (orphan_of tree.now).pages) }
     ensures cause { HasCauseOf faults.Source (S.faults src.old) (S.faults src.new) result }
     ensures kept { KeepsSource S.bytes S.attached S.faults S.reads src.old src.new }
     ensures moves { Moves 4 table.old table.new }

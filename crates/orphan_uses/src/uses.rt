@@ -5,14 +5,15 @@ ghost use Rattle.page_access.specs.Cache.{HasAll, IsCacheOf};
 ghost use Rattle.page_access.specs.Files.{file_of};
 ghost use Rattle.page_access.specs.Outside.{HasCauseOf, KeepsSource};
 ghost use Rattle.page_access.specs.declared.outside.ReadFault.TheVariants as faults;
+ghost use Rattle.page_lists.specs.Lists.{IsPartOf};
 ghost use Rattle.page_lists.specs.Table.{unused};
 ghost use Rattle.page_walk.specs.InTurn.{IsSmallTurn};
 ghost use Rattle.page_walk.specs.Turns.{ReadsEach};
 ghost use Rattle.page_walk.specs.Walk.{kinds_of};
 ghost use Rattle.tree_uses.specs.Trees.{turns_of};
-ghost use Rattle.orphan_trees.specs.Orphans.{IsOrphanOf, orphan_of};
+ghost use Rattle.orphan_trees.specs.Orphans.{IsOrphanOf, orphan_of, pages_in};
 ghost use Rattle.use_order.specs.Order.{UsesMove};
-ghost use Rattle.orphan_uses.specs.Order.{AreOrphans, after_orphans};
+ghost use Rattle.orphan_uses.specs.Order.{AreOrphans, HaveOrphanTurns, after_orphans};
 
 use crate::free::take_free;
 use crate::turns::read_orphans;
@@ -56,12 +57,16 @@ pub fn find_orphans<S: Source>(
     ensures table { IfOk result (λ u. IfSome (S.bytes src.old) (λ all.
         table.new ≡ after_orphans (file_of all geo.now) table.old first_trunk
         (map orphan_of u.trees.items) (map turns_of u.turns.items))) }
-    // told or not
+    // told or not: unused pages of the file, each once
+    ensures part { IfOk result
+        (λ u. IsPartOf (pages_in (map orphan_of u.trees.items)) (unused table.old)) }
     ensures bound { IfOk result
         (λ u. AllByRecursion (IsOrphanOf geo.now.pages) (map orphan_of u.trees.items)) }
     ensures turns { IfOk result (λ u. AllByRecursion
         (AllByRecursion (IsSmallTurn geo.now.usable geo.now.pages)) (map turns_of u.turns.items)) }
     ensures len { IfOk result (λ u. length u.turns.items ≡ length u.trees.items) }
+    ensures each { IfOk result
+        (λ u. HaveOrphanTurns (map orphan_of u.trees.items) (map turns_of u.turns.items)) }
     ensures moves { UsesMove table.old table.new }
     ensures cause { HasCauseOf faults.Source (S.faults src.old) (S.faults src.new) result }
     ensures kept { KeepsSource S.bytes S.attached S.faults S.reads src.old src.new }

@@ -1,5 +1,5 @@
 -- The parts of the order of use, put together.
-use Rattle.std.proofs.Common.{◌≡◌, ◌≤◌, ℕ, Option, Some, None, List, map, length, refl, ◌∙◌, ap, subst, arith}
+use Rattle.std.proofs.Common.{◌≡◌, ◌≤◌, ◌++◌, ℕ, Option, Some, None, List, map, length, refl, ◌∙◌, ap, subst, arith}
 use Rattle.std.specs.Prelude.{IfSome}
 use Rattle.std.specs.List.{concat, flat_map}
 use Rattle.std.proofs.lemmas.List.FromFn.{length-range_with_len}
@@ -22,6 +22,7 @@ use Rattle.raw_schema.specs.declared.TheConstants.{SCHEMA_LIST}
 use Rattle.raw_schema.specs.declared.reading.RawSchema.{RawSchema}
 use Rattle.raw_schema.specs.declared.rows.SchemaRow.{SchemaRow}
 use Rattle.tree_uses.specs.Trees.{Tree, chains_in, pages_in, turns_in, walks}
+use Rattle.tree_uses.proofs.Parts.{part_then}
 use Rattle.schema_texts.specs.Readings.{AreReadings}
 use Rattle.schema_texts.specs.declared.readings.TableReading.{TableReading}
 use Rattle.use_order.specs.Order.{AreInOrder, IsSchema, UsesMove, after_uses, behind_schema, behind_uses, index_trees, table_tree}
@@ -52,6 +53,15 @@ pub schema_moved : (a b : Table) → SchemaMoves a b → UsesMove a b
 schema_moved a b moves =
     moved_more a moves.between b (moved_once SCHEMA_LIST a moves.between (omega arith) moves.tree)
     (moved_once OVERFLOW_LIST moves.between b (omega arith) moves.chains)
+
+-- the pages of trees, and of more, are among those that were unused before
+pub trees_part : (t0 t1 t2 : Table) (tables indexes : List Tree) → UsesMove t0 t1 → t2 ≡ all_moved (pages_in tables) TABLE_LIST t1
+    → IsPartOf (pages_in tables) (unused t1) → IsPartOf (pages_in indexes) (unused t2)
+    → IsPartOf (pages_in tables ++ pages_in indexes) (unused t0)
+trees_part t0 t1 t2 tables indexes moves moved first next =
+    let both : IsPartOf (pages_in tables ++ pages_in indexes) (unused t1) =
+    part_then TABLE_LIST t1 t2 (pages_in tables) (pages_in indexes) (omega arith) moved first next in
+    λ q. omega (arith, both q, moves.left q)
 
 -- what holds of told bytes
 pub at_told : (P : List ℕ → Type 0) (o o' : Option (List ℕ)) (all : List ℕ) → o' ≡ o → o ≡ Some all → IfSome o' P → P all

@@ -25,12 +25,18 @@ use Rattle.schema_texts.specs.declared.readings.Reading.{Reading}
 use Rattle.schema_texts.specs.declared.readings.Reading.TheVariants as readings
 use Rattle.schema_texts.specs.declared.readings.TableReading.{TableReading}
 use Rattle.use_order.specs.declared.TheConstants.{INDEX_LIST, TABLE_LIST}
+use Rattle.use_order.specs.declared.uses.FileUses.{FileUses}
 
 -- unused pages moved to the lists of their uses
 pub record UsesMove (old new : Table) : Type 0 where
   pub same_pages : new.pages ≡ old.pages
   pub same_lists : length new.lists ≡ length old.lists
   pub left : IsPartOf (unused new) (unused old)
+
+-- the pages of the schema's tree are unused ones, each once; and so are those of the trees of its tables and indexes together
+pub record HaveUnused (unused : List ℕ) (u : FileUses) : Type 0 where
+  pub schema : IsPartOf u.schema.pages.items unused
+  pub trees : IsPartOf (pages_in (map tree_of u.tables.items) ++ pages_in (map tree_of u.indexes.items)) unused
 
 -- trees of pages of the file
 abbrev pub AreTreesOf : ℕ → List TreeUse → Type 0

@@ -12,8 +12,8 @@ ghost use Rattle.page_walk.specs.Walk.{kinds_of};
 ghost use Rattle.raw_schema.specs.Bounds.{IsSmallSchema};
 ghost use Rattle.raw_schema.specs.Schema.{ReadsTwice};
 ghost use Rattle.schema_texts.specs.Readings.{AreReadings};
-ghost use Rattle.tree_uses.specs.Trees.{tree_of, turns_of};
-ghost use Rattle.use_order.specs.Order.{AreInOrder, AreMatched, AreTreesOf, IsSchema, UsesMove, after_uses};
+ghost use Rattle.tree_uses.specs.Trees.{HaveTurns, tree_of, turns_of};
+ghost use Rattle.use_order.specs.Order.{AreInOrder, AreMatched, AreTreesOf, HaveUnused, IsSchema, UsesMove, after_uses};
 
 use crate::wants::{index_trees, table_trees};
 use crate::{INDEX_LIST, TABLE_LIST};
@@ -71,6 +71,9 @@ pub fn find_uses<S: Source>(
     ensures matched { IfOk result (λ u. AreMatched u.schema.rows.items u.readings.items
         (map tree_of u.tables.items) (map tree_of u.indexes.items) (map turns_of u.turns.items)) }
     ensures trees { IfOk result (λ u. length u.tables.items ≡ length u.readings.items) }
+    ensures part { IfOk result (HaveUnused (unused table.old)) }
+    ensures each { IfOk result
+        (λ u. HaveTurns (map tree_of u.tables.items) (map turns_of u.turns.items)) }
     ensures small { IfOk result (λ u. IsSmallSchema geo.now.usable geo.now.pages
         u.schema.rows.items u.schema.bad.items u.schema.pages.items) }
     ensures tables { IfOk result (λ u. AreTreesOf geo.now.pages u.tables.items) }

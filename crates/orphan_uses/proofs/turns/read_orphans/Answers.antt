@@ -46,6 +46,7 @@ loop-tree-preserved g c =
       moves = c.read_orphan.ensures.moves;
       moved = c.in_ok-cells.ensures.moved;
       small = c.in_ok-cells.ensures.small;
+      len = c.in_ok-cells.ensures.len;
       read = c.in_ok-cells.ensures.reads;
       full = c.in_ok-cells.ensures.full;
       value = c.in_ok-cells.ensures.value;

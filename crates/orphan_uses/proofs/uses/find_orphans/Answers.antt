@@ -11,7 +11,7 @@ use Rattle.orphan_trees.specs.declared.TheConstants.{ORPHAN_LIST}
 use Rattle.orphan_trees.specs.declared.trees.OrphanTree.{OrphanTree}
 use Rattle.use_order.proofs.Ordered.{moved_more, moved_once}
 use Rattle.use_order.proofs.Reading.{each_err, each_then}
-use Rattle.orphan_uses.specs.Order.{orphan_turns}
+use Rattle.orphan_uses.specs.Order.{HaveOrphanTurns, orphan_turns}
 use Rattle.orphan_uses.proofs.Ordered.{in_order}
 use Rattle.orphan_uses.proofs.Reading.{cells_read, reads_err, trees_read, unread}
 use Rattle.orphan_uses.proofs.uses.find_orphans.Goals as goal
@@ -150,3 +150,12 @@ returns-clause-full g c =
           c.take_free.ensures.kept.told c.in_ok-take_free.ensures.reads
           (unread g.S.Source.reads o1 geo c.take_free.new.table c.orphans.new.table c.take_free.new.src c.orphans.new.src trees.1 c.orphans.ensures.moves)) turns.1,
     )
+
+pub returns-clause-part : goal.returns-clause-part
+returns-clause-part g c =
+    let moves = moved_once FREE_LIST c.args.table.now c.take_free.new.table (omega arith) c.take_free.ensures.moves in
+    λ q. omega (arith, c.in_ok-trees.ensures.part q, moves.left q)
+
+pub returns-clause-each : goal.returns-clause-each
+returns-clause-each g c =
+    subst (λ (ts : List OrphanTree). HaveOrphanTurns (map orphan_of ts) (map turns_of c.in_ok-turns.turns.items)) c.deref.ensures.value c.in_ok-turns.ensures.each

@@ -8,7 +8,7 @@ use Rattle.page_walk.specs.Turns.{ReadsEach}
 use Rattle.page_walk.proofs.Going.{one_told}
 use Rattle.raw_schema.specs.Bounds.{sql_len}
 use Rattle.raw_schema.specs.declared.rows.SchemaRow.{SchemaRow}
-use Rattle.tree_uses.specs.Trees.{Tree, pages_in, tree_of, turns_in, turns_of, walks, wanted_row}
+use Rattle.tree_uses.specs.Trees.{HaveTurns, Tree, pages_in, tree_of, turns_in, turns_of, walks, wanted_row}
 use Rattle.tree_uses.specs.declared.walks.TreeUse.{TreeUse}
 use Rattle.tree_uses.specs.declared.walks.WantedTree.{WantedTree}
 use Rattle.schema_texts.specs.Readings.{AreReadings}
@@ -16,7 +16,7 @@ use Rattle.use_order.specs.Order.{index_trees, table_tree}
 use Rattle.use_order.proofs.Limits.{all_short, few_rows}
 use Rattle.use_order.specs.declared.TheConstants.{INDEX_LIST, TABLE_LIST}
 use Rattle.use_order.proofs.Matched.{matched}
-use Rattle.use_order.proofs.Ordered.{few_part, in_order, moved_more, moved_once, schema_is, schema_moved, table_is}
+use Rattle.use_order.proofs.Ordered.{few_part, in_order, moved_more, moved_once, schema_is, schema_moved, table_is, trees_part}
 use Rattle.use_order.proofs.Reading.{chains_each, each_err, each_then, reads_of_trees, reads_then, twice_err, twice_more}
 use Rattle.use_order.proofs.uses.find_uses.Goals as goal
 
@@ -148,6 +148,18 @@ returns-clause-trees g c =
     let wanted : c.deref-3.result.now ≡ map table_tree c.in_ok-readings.readings.items =
     c.deref-3.ensures.value ∙ c.in_ok-wanted.ensures ∙ ap (map table_tree) c.deref-2.ensures.value in
     c.in_ok-tables.ensures.len ∙ ap length wanted ∙ length-map c.in_ok-readings.readings.items table_tree
+
+pub returns-clause-part : goal.returns-clause-part
+returns-clause-part g c = record {
+  schema = c.in_ok-schema.ensures.part;
+  trees = trees_part c.args.table.now c.read_schema.new.table c.walk_trees.new.table (map tree_of c.in_ok-tables.tables.items)
+      (map tree_of c.in_ok-indexes.indexes.items) (schema_moved c.args.table.now c.read_schema.new.table c.read_schema.ensures.moves)
+      c.in_ok-tables.ensures.moved c.in_ok-tables.ensures.part c.in_ok-indexes.ensures.part;
+}
+
+pub returns-clause-each : goal.returns-clause-each
+returns-clause-each g c =
+    subst (λ (ts : List TreeUse). HaveTurns (map tree_of ts) (map turns_of c.in_ok-turns.turns.items)) c.deref-6.ensures.value c.in_ok-turns.ensures.each
 
 pub returns-in_err-tables-clause-reads : goal.returns-in_err-tables-clause-reads
 returns-in_err-tables-clause-reads g c =

@@ -27,7 +27,8 @@ use Rattle.salvage_laws.proofs.Found.{found_cells, found_within, good_in}
 use Rattle.salvage_laws.proofs.Good.{stored_are_good}
 use Rattle.salvage_laws.proofs.Kept.{each_once, kept_and_good, kept_have_evidence}
 use Rattle.salvage_laws.proofs.Pairs.{kept_share_nothing}
-use Rattle.salvage_laws.proofs.Room.{PagesFit, few_pages, local_bytes, pages_append, pages_more, payloads_len, trees_fit, turns_fit}
+use Rattle.page_room.proofs.Pages.{few_pages, pages_more}
+use Rattle.salvage_laws.proofs.Room.{PagesFit, local_bytes, pages_append, payloads_len, trees_fit, turns_fit}
 use Rattle.salvage_laws.proofs.Sharing.{less}
 use Rattle.salvage_laws.proofs.Uses.{SameTrees, each_read_once, same_trees}
 

@@ -9,6 +9,5 @@ pub mod Pairs
 pub mod Ranges
 pub mod Room
 pub mod Sharing
-pub mod Sizes
 pub mod Telling
 pub mod Uses

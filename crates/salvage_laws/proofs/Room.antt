@@ -13,10 +13,9 @@ use Rattle.record_core.specs.declared.values.Value.{Value}
 use Rattle.record_core.specs.Record.{record_of}
 use Rattle.cell_reader.specs.declared.cells.CellView.{CellView}
 use Rattle.cell_reader.specs.declared.shapes.PageShape.{PageShape}
-use Rattle.cell_reader.specs.Inside.{HasArray, has_payload}
+use Rattle.cell_reader.specs.Inside.{has_payload}
 use Rattle.cell_reader.specs.Screen.{Verdict, Accepts, Faulty, Overlaps, verdicts}
-use Rattle.cell_reader.specs.Shape.{head_of}
-use Rattle.overflow_chain.specs.Chain.{content_of, contents}
+use Rattle.overflow_chain.specs.Chain.{contents}
 use Rattle.overflow_chain.specs.declared.ChainEnd.{ChainEnd}
 use Rattle.overflow_chain.specs.declared.ChainEnd.TheVariants.{Whole, Broken}
 use Rattle.page_walk.specs.Cells.{Outcome, Row, bytes_from, chains_of, end_from, ended_as, entry_at, missing, outcome_at, outcomes_from, outcomes_in, outcomes_on, outcomes_with, read_as, turn_from}
@@ -29,9 +28,10 @@ use Rattle.raw_schema.specs.Schema.{cells_in}
 use Rattle.tree_uses.specs.Trees.{Tree, chains_in, pages_in, turns_in}
 use Rattle.use_order.specs.Apart.{row_chains}
 use Rattle.use_order.specs.Laws.{table_cells}
-use Rattle.orphan_trees.proofs.Lists.{count_pages}
 use Rattle.salvage_laws.specs.Room.{payload_bytes, payload_of}
-use Rattle.salvage_laws.proofs.Sizes.{PageHasRoom, accepted, has_array, locals, page_room}
+use Rattle.page_room.specs.Room.{HasRoom, accepted, locals}
+use Rattle.page_room.proofs.Pages.{contents_len, pages_more}
+use Rattle.page_room.proofs.Sizes.{page_room}
 
 -- the local bytes of a cell with this verdict
 abbrev local_of : Option Verdict → ℕ
@@ -118,21 +118,21 @@ record PageFits (f : File) (rows : List Row) : Type 0 where
   cells : 4 * length rows ≤ f.usable
   bytes : sum_by (local_bytes f) rows ≤ f.usable
 
-shape_fits : (f : File) (p : ℕ) (unused : List ℕ) (s : Option PageShape) → shape_on f p ≡ s → IfSome s (HasArray f.usable)
+shape_fits : (f : File) (p : ℕ) (unused : List ℕ) (s : Option PageShape) → shape_on f p ≡ s
     → PageFits f (rows_of (outcomes_with f p s unused))
 unfolding outcomes_in
-shape_fits f p unused None e array = record { cells = omega arith; bytes = omega arith }
-shape_fits f p unused (Some shape) e array =
+shape_fits f p unused None e = record { cells = omega arith; bytes = omega arith }
+shape_fits f p unused (Some shape) e =
     let fits : FitIn f (accepted (verdicts (page_at f p) f.usable f.pages shape)) (locals (verdicts (page_at f p) f.usable f.pages shape))
     (rows_of (outcomes_from f (page_at f p) p (has_payload shape.kind shape.leaf) 0 (verdicts (page_at f p) f.usable f.pages shape) unused)) =
     from_fits f p 0 (has_payload shape.kind shape.leaf) (verdicts (page_at f p) f.usable f.pages shape) unused
     (λ j. let none : j ≡ 0 + j = omega arith in
     ap (λ (vs : List Verdict). slice_get vs j) (sym (ap (verdicts_in f p) e)) ∙ ap (slice_get (verdicts_on f p)) none) in
-    let room : PageHasRoom f.usable (verdicts (page_at f p) f.usable f.pages shape) = page_room (page_at f p) f.usable f.pages shape array in
+    let room : HasRoom shape.kind f.usable (verdicts (page_at f p) f.usable f.pages shape) = page_room (page_at f p) p f.usable f.pages shape e in
     record { cells = omega (arith, fits.few, room.cells); bytes = omega (arith, fits.small, room.bytes) }
 
 page_fits : (f : File) (p : ℕ) (unused : List ℕ) → PageFits f (rows_of (outcomes_on f p unused))
-page_fits f p unused = shape_fits f p unused (shape_on f p) refl (has_array (page_at f p) (head_of p) f.usable)
+page_fits f p unused = shape_fits f p unused (shape_on f p) refl
 
 -- ---- the rows of pages
 
@@ -140,9 +140,6 @@ page_fits f p unused = shape_fits f p unused (shape_on f p) refl (has_array (pag
 pub record PagesFit (f : File) (pages : ℕ) (rows : List Row) : Type 0 where
   pub cells : 4 * length rows ≤ pages * f.usable
   pub bytes : sum_by (local_bytes f) rows ≤ pages * f.usable
-
-pub pages_more : (n m u : ℕ) → (n + m) * u ≡ n * u + m * u
-pages_more n m u = grind arith
 
 pub pages_append : (f : File) (n m : ℕ) (xs ys : List Row) → PagesFit f n xs → PagesFit f m ys → PagesFit f (n + m) (xs ++ ys)
 pages_append f n m xs ys first next = record {
@@ -173,17 +170,6 @@ trees_fit f (t ∷ ts) unused =
 
 -- ---- payloads
 
-contents_len : (f : File) (ps : List ℕ) → length (contents f ps) ≤ length ps * f.usable
-contents_len f [] = omega arith
-contents_len f (p ∷ ps) =
-    omega (
-      arith,
-      length-append (content_of f p) (contents f ps),
-      length-take (f.usable - 4) (drop 4 (page_at f p)),
-      contents_len f ps,
-      pages_more 1 (length ps) f.usable,
-    )
-
 rest_len : (f : File) (need : ℕ) (overflow : Option ℕ) (chain rest : List ℕ) → IsRest f need overflow chain rest → length rest ≤ length chain * f.usable
 rest_len f need None chain rest is = omega (arith, ap length is.1)
 rest_len f need (Some q) chain rest is = omega (arith, ap length is.bytes_are, length-take need (contents f chain), contents_len f chain)
@@ -205,15 +191,3 @@ payloads_len f (row ∷ rows) shown =
     let more : length (row.chain ++ row_chains rows) * f.usable ≡ length row.chain * f.usable + length (row_chains rows) * f.usable =
     ap (λ (n : ℕ). n * f.usable) (length-append row.chain (row_chains rows)) ∙ pages_more (length row.chain) (length (row_chains rows)) f.usable in
     omega (arith, payload_len f row shown.0, payloads_len f rows shown.1, sum_by-cons (local_bytes f) row rows, more)
-
--- ---- pages of a file
-
--- pages of the file, each once, are no more than its pages
-pub few_pages : (n : ℕ) (ps qs : List ℕ) → ((q : ℕ) → count q ps + count q qs ≤ (if is_page n q then 1 else 0)) → length ps + length qs ≤ n
-few_pages n ps qs once =
-    omega (
-      arith,
-      length-append ps qs,
-      length-minus (range_with_len 1 n) (ps ++ qs) (λ q. omega (arith, once q, count-append q ps qs, count_pages n q)),
-      length-range_with_len 1 n,
-    )

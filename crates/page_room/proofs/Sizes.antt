@@ -18,19 +18,20 @@ use Rattle.cell_reader.specs.Cell.{and_varint, numbers_behind, numbers_of, size_
 use Rattle.cell_reader.specs.Cover.{IsRange, is_free, marked_from, marked_on, marks_with, with_range}
 use Rattle.cell_reader.specs.Inside.{HasArray}
 use Rattle.cell_reader.specs.Screen.{Verdict, Accepts, Faulty, Overlaps, verdicts}
-use Rattle.cell_reader.specs.Shape.{header_len, shape_at, shape_with, type_of, u16_at}
+use Rattle.cell_reader.specs.Shape.{head_of, header_len, shape_at, shape_with, type_of, u16_at}
+use Rattle.page_room.specs.Room.{HasRoom, PagesHaveRoom, accepted, locals, number_bytes}
 use Rattle.cell_reader.proofs.Marks.{length_set, set_mark}
 use Rattle.cell_reader.proofs.Ranges.{Within, cell_range, page_marked, varint_within}
 
 -- ---- a cell
 
--- the fewest bytes of a cell's numbers: a payload has a byte besides
-abbrev least : Option ℕ → ℕ
-least None = 2
-least (Some total) = 1
+-- the same of any cell: a payload has a byte besides
+abbrev least : Kind → Option ℕ → ℕ
+least kind None = 2
+least kind (Some total) = number_bytes kind
 
-abbrev IsWide : Numbers → Type 0
-IsWide n = least n.total ≤ n.len
+abbrev IsWide : Kind → Numbers → Type 0
+IsWide kind n = least kind n.total ≤ n.len
 
 behind_varint : (o : Option (ℕ × ℕ)) (g : ℕ → ℕ → Option Numbers) (P : Numbers → Type 0) (len : ℕ)
     → IfSome o (Within len) → ((v a : ℕ) → 1 ≤ a → IfSome (g v a) P) → IfSome (and_varint o g) P
@@ -38,17 +39,17 @@ behind_varint None g P len h more = tt
 behind_varint (Some v) g P len h more = more v.0 v.1 h.0
 
 behind_wide : (kind : Kind) (leaf : Bool) (child : Option ℕ) (at : ℕ) (bytes : List ℕ) → (leaf ≡ false → 1 ≤ at)
-    → IfSome (numbers_behind kind leaf child at bytes) IsWide
+    → IfSome (numbers_behind kind leaf child at bytes) (IsWide kind)
 unfolding numbers_behind
 behind_wide Table true child at bytes some =
-    behind_varint (varint_at (drop at bytes)) _ IsWide _ (varint_within (drop at bytes)) (λ total a one.
-    behind_varint (varint_at (drop (at + a) bytes)) _ IsWide _ (varint_within (drop (at + a) bytes)) (λ rowid b two. omega (arith, one)))
+    behind_varint (varint_at (drop at bytes)) _ (IsWide Table) _ (varint_within (drop at bytes)) (λ total a one.
+    behind_varint (varint_at (drop (at + a) bytes)) _ (IsWide Table) _ (varint_within (drop (at + a) bytes)) (λ rowid b two. omega (arith, one, two)))
 behind_wide Table false child at bytes some =
-    behind_varint (varint_at (drop at bytes)) _ IsWide _ (varint_within (drop at bytes)) (λ key a one. omega (arith, one, some refl))
+    behind_varint (varint_at (drop at bytes)) _ (IsWide Table) _ (varint_within (drop at bytes)) (λ key a one. omega (arith, one, some refl))
 behind_wide Index leaf child at bytes some =
-    behind_varint (varint_at (drop at bytes)) _ IsWide _ (varint_within (drop at bytes)) (λ total a one. omega (arith, one))
+    behind_varint (varint_at (drop at bytes)) _ (IsWide Index) _ (varint_within (drop at bytes)) (λ total a one. omega (arith, one))
 
-numbers_wide : (kind : Kind) (leaf : Bool) (bytes : List ℕ) → IfSome (numbers_of kind leaf bytes) IsWide
+numbers_wide : (kind : Kind) (leaf : Bool) (bytes : List ℕ) → IfSome (numbers_of kind leaf bytes) (IsWide kind)
 unfolding numbers_of
 numbers_wide kind true bytes = behind_wide kind true None 0 bytes (λ e. absurd cc)
 numbers_wide kind false bytes =
@@ -57,19 +58,24 @@ numbers_wide kind false bytes =
       | inr e ↦ rw e (behind_wide kind false _ 4 bytes (λ same. omega arith))
     ]
 
--- a cell has two bytes, and its local bytes are some of them
-abbrev HasTwo : Parts → Type 0
-HasTwo p = (2 ≤ p.size) × (p.kept ≤ p.size)
+some_bytes : (kind : Kind) → (1 ≤ number_bytes kind) × (number_bytes kind ≤ 2)
+some_bytes Table = (omega arith, omega arith)
+some_bytes Index = (omega arith, omega arith)
 
-payload_two : (usable : ℕ) (kind : Kind) (bytes : List ℕ) (n : Numbers) (total : ℕ) → 1 ≤ n.len → 1 ≤ total
-    → IfOk (with_payload usable kind bytes n total) HasTwo
+-- a cell has two bytes, and its local bytes stand behind its numbers
+abbrev HasTwo : Kind → Parts → Type 0
+HasTwo kind p = (2 ≤ p.size) × (p.kept + number_bytes kind ≤ p.size)
+
+payload_two : (usable : ℕ) (kind : Kind) (bytes : List ℕ) (n : Numbers) (total : ℕ) → number_bytes kind ≤ n.len → 1 ≤ total
+    → IfOk (with_payload usable kind bytes n total) (HasTwo kind)
 unfolding with_payload
 payload_two usable kind bytes n total some more =
-    let two : (2 ≤ size_of n.len (local_len kind usable total) total) × (local_len kind usable total ≤ size_of n.len (local_len kind usable total) total) =
+    let one = (some_bytes kind).0 in
+    let two : (2 ≤ size_of n.len (local_len kind usable total) total) × (local_len kind usable total + number_bytes kind ≤ size_of n.len (local_len kind usable total) total) =
     elim (cases_Bool (local_len kind usable total == total)) [
       | inl e ↦ let all : local_len kind usable total ≡ total = grind (arith, nat_tests, e) in
-          rw e (omega (arith, some, more, all), omega (arith, some))
-      | inr e ↦ rw e (omega (arith, some), omega (arith, some))
+          rw e (omega (arith, one, some, more, all), omega (arith, some))
+      | inr e ↦ rw e (omega (arith, one, some), omega (arith, some))
     ] in
     elim (cases_Bool (nat_lt (length bytes) (size_of n.len (local_len kind usable total) total))) [
       | inl e ↦ rw e tt
@@ -77,12 +83,12 @@ payload_two usable kind bytes n total some more =
     ]
 
 parts_two : (usable limit : ℕ) (kind : Kind) (leaf : Bool) (bytes : List ℕ)
-    → IfOk (cell_parts usable limit kind leaf bytes) HasTwo
+    → IfOk (cell_parts usable limit kind leaf bytes) (HasTwo kind)
 unfolding cell_parts
 parts_two usable limit kind leaf bytes = from (numbers_of kind leaf bytes) (numbers_wide kind leaf bytes)
   where
-    with : (n : Numbers) (total : Option ℕ) → least total ≤ n.len → IfOk (parts_with usable limit kind bytes n total) HasTwo
-    with n None wide = (wide, omega arith)
+    with : (n : Numbers) (total : Option ℕ) → least kind total ≤ n.len → IfOk (parts_with usable limit kind bytes n total) (HasTwo kind)
+    with n None wide = (wide, omega (arith, wide, (some_bytes kind).1))
     with n (Some total) wide =
         elim (cases_Bool ((total == 0) || nat_lt limit total)) [
           | inl e ↦ rw e tt
@@ -93,22 +99,22 @@ parts_two usable limit kind leaf bytes = from (numbers_of kind leaf bytes) (numb
         some_total zero b none = absurd cc
         some_total (suc n) b none = omega arith
 
-    from : (o : Option Numbers) → IfSome o IsWide → IfOk (parts_from usable limit kind bytes o) HasTwo
+    from : (o : Option Numbers) → IfSome o (IsWide kind) → IfOk (parts_from usable limit kind bytes o) (HasTwo kind)
     from None h = tt
     from (Some n) h = with n n.total h
 
--- a cell behind the first `front` bytes of a page, with two bytes at least, some of which are its local bytes
-pub record IsBehind (front usable : ℕ) (v : CellView) : Type 0 where
+-- a cell behind the first `front` bytes of a page of this kind, with two bytes at least: its numbers and its local bytes
+pub record IsBehind (kind : Kind) (front usable : ℕ) (v : CellView) : Type 0 where
   pub behind : front ≤ v.start
   pub two : v.start + 2 ≤ v.end
   pub within : v.end ≤ usable
-  pub local : v.local_end - v.local_start ≤ v.end - v.start
+  pub local : v.local_end - v.local_start + number_bytes kind ≤ v.end - v.start
 
-view_behind : (front usable start : ℕ) (r : Result Parts CellFault) → front ≤ start → IfOk r HasTwo → IfOk (view_of start r) (IsRange usable)
-    → IfOk (view_of start r) (IsBehind front usable)
+view_behind : (kind : Kind) (front usable start : ℕ) (r : Result Parts CellFault) → front ≤ start → IfOk r (HasTwo kind) → IfOk (view_of start r) (IsRange usable)
+    → IfOk (view_of start r) (IsBehind kind front usable)
 unfolding view_at
-view_behind front usable start (Err fault) low two range = tt
-view_behind front usable start (Ok p) low two range = record {
+view_behind kind front usable start (Err fault) low two range = tt
+view_behind kind front usable start (Ok p) low two range = record {
   behind = low;
   two = omega (arith, two.0);
   within = range.1;
@@ -124,7 +130,7 @@ not_below start front b none = let low : nat_lt start front ≡ false = first_fa
 
 -- each cell of a page is one behind its array of cell pointers
 pub cell_behind : (page : List ℕ) (usable pages : ℕ) (shape : PageShape) (i : ℕ)
-    → IfOk (cell_of page usable pages shape i) (IsBehind shape.array_end usable)
+    → IfOk (cell_of page usable pages shape i) (IsBehind shape.kind shape.array_end usable)
 unfolding cell_of
 cell_behind page usable pages shape i =
     from (nat_lt (pointer_of page shape i) shape.array_end || nat_le usable (pointer_of page shape i)) refl (cell_range page usable pages shape i)
@@ -133,10 +139,10 @@ cell_behind page usable pages shape i =
     read = view_of (pointer_of page shape i) (cell_parts usable (pages * usable) shape.kind shape.leaf (slice_range page (pointer_of page shape i) usable))
 
     from : (b : Bool) → (nat_lt (pointer_of page shape i) shape.array_end || nat_le usable (pointer_of page shape i)) ≡ b
-        → IfOk (if b then Err Pointer else read) (IsRange usable) → IfOk (if b then Err Pointer else read) (IsBehind shape.array_end usable)
+        → IfOk (if b then Err Pointer else read) (IsRange usable) → IfOk (if b then Err Pointer else read) (IsBehind shape.kind shape.array_end usable)
     from true e range = tt
     from false e range =
-        view_behind shape.array_end usable (pointer_of page shape i) _ (not_below (pointer_of page shape i) shape.array_end (nat_le usable (pointer_of page shape i)) e)
+        view_behind shape.kind shape.array_end usable (pointer_of page shape i) _ (not_below (pointer_of page shape i) shape.array_end (nat_le usable (pointer_of page shape i)) e)
         (parts_two usable (pages * usable) shape.kind shape.leaf (slice_range page (pointer_of page shape i) usable)) range
 
 -- ---- marks
@@ -192,30 +198,18 @@ trues-range m s e le free =
 
 -- ---- the accepted cells of a page
 
--- how many cells are accepted, their bytes, and their local bytes
-abbrev pub accepted : List Verdict → ℕ
-accepted [] = 0
-accepted (Accepts v ∷ vs) = suc (accepted vs)
-accepted (Faulty fault ∷ vs) = accepted vs
-accepted (Overlaps ∷ vs) = accepted vs
-
-abbrev pub sizes : List Verdict → ℕ
+-- the bytes of the accepted cells
+abbrev sizes : List Verdict → ℕ
 sizes [] = 0
 sizes (Accepts v ∷ vs) = (v.end - v.start) + sizes vs
 sizes (Faulty fault ∷ vs) = sizes vs
 sizes (Overlaps ∷ vs) = sizes vs
 
-abbrev pub locals : List Verdict → ℕ
-locals [] = 0
-locals (Accepts v ∷ vs) = (v.local_end - v.local_start) + locals vs
-locals (Faulty fault ∷ vs) = locals vs
-locals (Overlaps ∷ vs) = locals vs
-
 -- the accepted cells of n have room beside the marks that are set and behind the front of the page
-record HaveRoom (front usable n : ℕ) (m : List Bool) (vs : List Verdict) : Type 0 where
+record HaveRoom (kind : Kind) (front usable n : ℕ) (m : List Bool) (vs : List Verdict) : Type 0 where
   room : sizes vs + trues m + front ≤ usable
   two : 2 * accepted vs ≤ sizes vs
-  local : locals vs ≤ sizes vs
+  local : locals vs + accepted vs * number_bytes kind ≤ sizes vs
   most : accepted vs ≤ n
 
 -- the marks of a page whose front is not set
@@ -223,9 +217,9 @@ record AreMarks (front usable : ℕ) (m : List Bool) : Type 0 where
   len : length m ≡ usable
   free : (k : ℕ) → k < front → get_or m k false ≡ false
 
-marks_more : (front usable : ℕ) (m : List Bool) (v : CellView) → AreMarks front usable m → IsBehind front usable v
+marks_more : (kind : Kind) (front usable : ℕ) (m : List Bool) (v : CellView) → AreMarks front usable m → IsBehind kind front usable v
     → AreMarks front usable (with_range m v.start v.end)
-marks_more front usable m v are behind = record {
+marks_more kind front usable m v are behind = record {
   len = length_set m v.start v.end (omega (arith, behind.two)) (omega (arith, are.len, behind.within)) ∙ are.len;
   free = λ k lt. set_mark m v.start v.end k (omega (arith, behind.two)) (omega (arith, are.len, behind.within))
       ∙ unset k (omega (arith, lt, behind.behind)) (are.free k lt);
@@ -234,58 +228,46 @@ marks_more front usable m v are behind = record {
     unset : (k : ℕ) → k < v.start → get_or m k false ≡ false → ((nat_le v.start k && nat_lt k v.end) || get_or m k false) ≡ false
     unset k lt none = let low : nat_le v.start k ≡ false = grind (arith, nat_tests, lt) in rw (low, none) refl
 
-one_more : (front usable n : ℕ) (m : List Bool) (r : Result CellView CellFault) (more : List Bool → List Verdict) → IfOk r (IsBehind front usable)
-    → ((m' : List Bool) → AreMarks front usable m' → HaveRoom front usable n m' (more m')) → AreMarks front usable m
-    → HaveRoom front usable (suc n) m (marked_on r m ∷ more (marks_with (marked_on r m) m))
-one_more front usable n m (Err fault) more ok rec are =
-    let rest : HaveRoom front usable n m (more m) = rec m are in
+pub more_bytes : (n b : ℕ) → suc n * b ≡ n * b + b
+more_bytes n b = grind arith
+
+one_more : (kind : Kind) (front usable n : ℕ) (m : List Bool) (r : Result CellView CellFault) (more : List Bool → List Verdict) → IfOk r (IsBehind kind front usable)
+    → ((m' : List Bool) → AreMarks front usable m' → HaveRoom kind front usable n m' (more m')) → AreMarks front usable m
+    → HaveRoom kind front usable (suc n) m (marked_on r m ∷ more (marks_with (marked_on r m) m))
+one_more kind front usable n m (Err fault) more ok rec are =
+    let rest : HaveRoom kind front usable n m (more m) = rec m are in
     record { room = rest.room; two = rest.two; local = rest.local; most = omega (arith, rest.most) }
-one_more front usable n m (Ok v) more behind rec are = by_free (is_free m v.start v.end) refl
+one_more kind front usable n m (Ok v) more behind rec are = by_free (is_free m v.start v.end) refl
   where
     by_free : (b : Bool) → is_free m v.start v.end ≡ b
-        → HaveRoom front usable (suc n) m ((if b then Accepts v else Overlaps) ∷ more (marks_with (if b then Accepts v else Overlaps) m))
+        → HaveRoom kind front usable (suc n) m ((if b then Accepts v else Overlaps) ∷ more (marks_with (if b then Accepts v else Overlaps) m))
     by_free true free =
-        let rest : HaveRoom front usable n (with_range m v.start v.end) (more (with_range m v.start v.end)) =
-        rec (with_range m v.start v.end) (marks_more front usable m v are behind) in
+        let rest : HaveRoom kind front usable n (with_range m v.start v.end) (more (with_range m v.start v.end)) =
+        rec (with_range m v.start v.end) (marks_more kind front usable m v are behind) in
         record {
           room = omega (arith, rest.room, trues-range m v.start v.end (omega (arith, behind.two)) free);
           two = omega (arith, rest.two, behind.two);
-          local = omega (arith, rest.local, behind.local);
+          local = omega (arith, rest.local, behind.local, more_bytes (accepted (more (with_range m v.start v.end))) (number_bytes kind));
           most = omega (arith, rest.most);
         }
     by_free false taken =
-        let rest : HaveRoom front usable n m (more m) = rec m are in
+        let rest : HaveRoom kind front usable n m (more m) = rec m are in
         record { room = rest.room; two = rest.two; local = rest.local; most = omega (arith, rest.most) }
 
-marked_room : (front usable : ℕ) (cell : ℕ → Result CellView CellFault) → ((j : ℕ) → IfOk (cell j) (IsBehind front usable)) → front ≤ usable
-    → (n i : ℕ) (m : List Bool) → AreMarks front usable m → HaveRoom front usable n m (marked_from cell n i m)
-marked_room front usable cell behind low zero i m are = record {
+marked_room : (kind : Kind) (front usable : ℕ) (cell : ℕ → Result CellView CellFault) → ((j : ℕ) → IfOk (cell j) (IsBehind kind front usable)) → front ≤ usable
+    → (n i : ℕ) (m : List Bool) → AreMarks front usable m → HaveRoom kind front usable n m (marked_from cell n i m)
+marked_room kind front usable cell behind low zero i m are = record {
   room = omega (arith, front_room front m (omega (arith, are.len, low)) are.free, are.len);
   two = omega arith;
   local = omega arith;
   most = omega arith;
 }
-marked_room front usable cell behind low (suc n) i m are =
-    one_more front usable n m (cell i) (marked_from cell n (i + 1)) (behind i) (λ m' are'. marked_room front usable cell behind low n (i + 1) m' are') are
+marked_room kind front usable cell behind low (suc n) i m are =
+    one_more kind front usable n m (cell i) (marked_from cell n (i + 1)) (behind i) (λ m' are'. marked_room kind front usable cell behind low n (i + 1) m' are') are
 
--- a page has four usable bytes for each accepted cell, and one for each of their local bytes
-pub record PageHasRoom (usable : ℕ) (vs : List Verdict) : Type 0 where
-  pub cells : 4 * accepted vs ≤ usable
-  pub bytes : locals vs ≤ usable
-
-pub page_room : (page : List ℕ) (usable pages : ℕ) (shape : PageShape) → HasArray usable shape → PageHasRoom usable (verdicts page usable pages shape)
-page_room page usable pages shape array =
-    let none : AreMarks shape.array_end usable (replicate usable false) = record {
-      len = length-replicate usable false;
-      free = λ k lt. get_or-replicate usable k false false (omega (arith, lt, array.within));
-    } in
-    let room : HaveRoom shape.array_end usable shape.cells (replicate usable false) (verdicts page usable pages shape) =
-    subst (HaveRoom shape.array_end usable shape.cells (replicate usable false)) (page_marked page usable pages shape)
-    (marked_room shape.array_end usable (cell_of page usable pages shape) (cell_behind page usable pages shape) array.within shape.cells 0 _ none) in
-    record {
-      cells = omega (arith, room.room, room.two, room.most, array.ends);
-      bytes = omega (arith, room.room, room.local);
-    }
+header_least : (leaf : Bool) → 8 ≤ header_len leaf
+header_least true = omega arith
+header_least false = omega arith
 
 -- the pointer array of a page with a shape ends inside its usable bytes
 array_with : (usable head cells : ℕ) (t : Option (Kind × Bool)) → IfSome (shape_with usable head cells t) (HasArray usable)
@@ -296,6 +278,29 @@ array_with usable head cells (Some t) =
       | inr e ↦ rw e (record { ends = refl; within = grind (arith, nat_tests, e) })
     ]
 
-pub has_array : (page : List ℕ) (head usable : ℕ) → IfSome (shape_at page head usable) (HasArray usable)
+has_array : (page : List ℕ) (head usable : ℕ) → IfSome (shape_at page head usable) (HasArray usable)
 unfolding shape_at
 has_array page head usable = array_with usable head (u16_at page (head + 3)) (type_of (slice_index page head))
+
+-- ---- pages
+
+shape_room : (page : List ℕ) (usable pages : ℕ) (shape : PageShape) → HasArray usable shape
+    → HasRoom shape.kind usable (verdicts page usable pages shape)
+shape_room page usable pages shape array =
+    let none : AreMarks shape.array_end usable (replicate usable false) = record {
+      len = length-replicate usable false;
+      free = λ k lt. get_or-replicate usable k false false (omega (arith, lt, array.within));
+    } in
+    let room : HaveRoom shape.kind shape.array_end usable shape.cells (replicate usable false) (verdicts page usable pages shape) =
+    subst (HaveRoom shape.kind shape.array_end usable shape.cells (replicate usable false)) (page_marked page usable pages shape)
+    (marked_room shape.kind shape.array_end usable (cell_of page usable pages shape) (cell_behind page usable pages shape) array.within shape.cells 0 _ none) in
+    record {
+      cells = omega (arith, room.room, room.two, room.most, array.ends);
+      bytes = omega (arith, room.room, room.local);
+      whole = omega (arith, room.room, room.local, room.most, array.ends, header_least shape.leaf);
+    }
+
+pub page_room : PagesHaveRoom
+page_room page number usable pages shape is =
+    let array : HasArray usable shape = subst (λ (o : Option PageShape). IfSome o (HasArray usable)) is (has_array page (head_of number) usable) in
+    shape_room page usable pages shape array

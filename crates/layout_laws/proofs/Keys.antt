@@ -43,7 +43,7 @@ other_bytes xs ys other = by (bytes_eq xs ys) (λ e. (bytes_eq-Decides xs ys).0 
     by true same = absurd (other (same refl))
     by false same = refl
 
-index_name_one : (table : List ℕ) (m n : ℕ) → m < 2 ^ 63 → n < 2 ^ 63 → index_name table m ≡ index_name table n → m ≡ n
+pub index_name_one : (table : List ℕ) (m n : ℕ) → m < 2 ^ 63 → n < 2 ^ 63 → index_name table m ≡ index_name table n → m ≡ n
 unfolding index_name
 index_name_one table m n small_m small_n same =
     let tails = append_cancel_left (codes "sqlite_autoindex_") (table ++ (codes "_" ++ decimal m)) (table ++ (codes "_" ++ decimal n)) same in

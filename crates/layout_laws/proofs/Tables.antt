@@ -63,7 +63,7 @@ table_is size db before t pages is good tree = record {
 
 -- ---- names of tables
 
-not_named : (a b : List ℕ) → same_name a b ≡ false → a ≡ b → ⊥
+pub not_named : (a b : List ℕ) → same_name a b ≡ false → a ≡ b → ⊥
 not_named a b other same =
     let all : same_name a a ≡ true = same_bytes (str_to_ascii_lowercase a) in
     let no_more : same_name a a ≡ false = subst (λ (c : List ℕ). same_name a c ≡ false) (sym same) other in

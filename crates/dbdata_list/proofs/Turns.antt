@@ -1,5 +1,5 @@
 -- The listing of all cells, page by page, and the unused pages that each page leaves.
-use Rattle.std.proofs.Common.{◌≡◌, ◌∙◌, ◌<◌, ℕ, suc, ◌+◌, ◌-◌, List, ◌++◌, length, drop, get_or, map, Option, Some, None, ap, arith, sym, lit≤}
+use Rattle.std.proofs.Common.{◌≡◌, ◌∙◌, ◌<◌, ◌≤◌, [], ℕ, suc, ◌+◌, ◌-◌, List, ◌++◌, length, drop, get_or, map, Option, Some, None, ap, arith, sym, lit≤}
 use Rattle.std.specs.Prelude.{IfSome}
 use Rattle.std.proofs.lemmas.List.{drop_more}
 use Rattle.page_access.specs.Pages.{File}
@@ -27,6 +27,10 @@ data_all f t e = let n : f.pages ≡ f.pages - 0 = omega arith in ap (λ m. page
 pub data_more : (f : File) (n i : ℕ) (u : List ℕ) → i < n →
     pages_data f (n - i) (i + 1) u ≡ page_data f (i + 1) u ++ pages_data f (n - (i + 1)) (i + 1 + 1) (left_by f (i + 1) u)
 data_more f n i u lt = let e : n - i ≡ suc (n - (i + 1)) = omega arith in ap (λ m. pages_data f m (i + 1) u) e
+
+-- no page is left
+pub data_none : (f : File) (n i p : ℕ) (u : List ℕ) → n ≤ i → pages_data f (n - i) p u ≡ []
+data_none f n i p u le = let e : n - i ≡ 0 = omega (arith, le) in ap (λ m. pages_data f m p u) e
 
 -- what the cells of a page leave
 pub left_is : (told : Option (List ℕ)) (f : List ℕ → File) (p : ℕ) (old new : Table) → IfSome told (λ all. new ≡ after_turns (f all) p old)

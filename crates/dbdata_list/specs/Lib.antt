@@ -1,3 +1,4 @@
+pub mod Reads
 pub mod Faults
 pub mod Text
 pub mod Listing

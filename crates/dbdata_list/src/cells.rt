@@ -1,12 +1,13 @@
 //! The listing of all cells.
-ghost use Rattle.std.specs.Prelude.{◌≡◌, ◌≤◌, ◌+◌, length, map, IfSome, OnOk};
+ghost use Rattle.std.specs.Prelude.{◌≡◌, ◌≤◌, ◌+◌, ◌*◌, length, map, IfSome, OnOk, is_ok, if◌then◌else◌};
 ghost use Rattle.page_access.specs.Cache.{IsCacheOf};
 ghost use Rattle.page_access.specs.Files.{file_of};
 ghost use Rattle.page_access.specs.Outside.{HasCauseOf, KeepsSink, KeepsSource, Writes, WritesOf};
 ghost use Rattle.page_lists.specs.Table.{unused};
 ghost use Rattle.page_walk.specs.Cells.{outcome_of};
-ghost use Rattle.page_walk.specs.Turns.{left_by};
+ghost use Rattle.page_walk.specs.Turns.{ReadsEach, left_by};
 ghost use Rattle.dbdata_list.specs.Listing.{data_text, page_data};
+ghost use Rattle.dbdata_list.specs.Reads.{FewReads};
 ghost use Rattle.dbdata_list.specs.Text.{outcome_text, outcomes_text};
 
 use crate::faults::ListFault;
@@ -33,6 +34,9 @@ pub fn list_data<S: Source, R: Sink>(
     ensures sink { HasCauseOf ListFault.Sink (R.faults to.old) (R.faults to.new) result }
     ensures kept { KeepsSource S.bytes S.attached S.faults S.reads src.old src.new }
     ensures kept_sink { KeepsSink R.created R.finished R.faults to.old to.new }
+    // each page is read once, and once more where an overflow chain uses it
+    ensures reads { FewReads (S.bytes src.old) geo.now
+        (S.reads src.old) (S.reads src.new) (2 * geo.now.pages + 1) }
 {
     let mut table = PageTable::new(alloc, geo.pages, LISTS)?;
     let mut cache = PageCache::new(alloc, geo, 1)?;
@@ -88,6 +92,8 @@ fn list_cells<S: Source, R: Sink>(
     ensures sink { HasCauseOf ListFault.Sink (R.faults to.old) (R.faults to.new) result }
     ensures kept { KeepsSource S.bytes S.attached S.faults S.reads src.old src.new }
     ensures kept_sink { KeepsSink R.created R.finished R.faults to.old to.new }
+    ensures reads { ReadsEach (S.bytes src.old) geo.now table.old table.new
+        (S.reads src.old) (S.reads src.new) (if is_ok result then 1 else 2) }
 {
     let mut cells = Vec::new(alloc);
     cells_with(

@@ -4,6 +4,7 @@ ghost use Rattle.page_access.specs.Cache.{IsCacheOf};
 ghost use Rattle.page_access.specs.Files.{file_of};
 ghost use Rattle.page_access.specs.Outside.{HasCauseOf, KeepsSink, KeepsSource, Writes, WritesOf};
 ghost use Rattle.dbdata_list.specs.Listing.{page_pointers, pointers_text};
+ghost use Rattle.dbdata_list.specs.Reads.{FewReads};
 ghost use Rattle.dbdata_list.specs.Text.{pointer_line, pointer_lines};
 
 use crate::faults::ListFault;
@@ -28,6 +29,8 @@ pub fn list_pointers<S: Source, R: Sink>(
     ensures sink { HasCauseOf ListFault.Sink (R.faults to.old) (R.faults to.new) result }
     ensures kept { KeepsSource S.bytes S.attached S.faults S.reads src.old src.new }
     ensures kept_sink { KeepsSink R.created R.finished R.faults to.old to.new }
+    // each page is read once at most
+    ensures reads { FewReads (S.bytes src.old) geo.now (S.reads src.old) (S.reads src.new) geo.now.pages }
 {
     let mut cache = PageCache::new(alloc, geo, 1)?;
     let mut bytes = vec![in alloc; 0; geo.page_size as usize]?;
@@ -74,6 +77,7 @@ fn list_page<S: Source, R: Sink>(
     ensures kept_sink { KeepsSink R.created R.finished R.faults to.old to.new }
     ensures cached { IsCacheOf (S.bytes src.old) geo.now cache.new }
     ensures marks { length accepted.new ≡ length accepted.old }
+    ensures reads { FewReads (S.bytes src.old) geo.now (S.reads src.old) (S.reads src.new) 1 }
 {
     let mut named = Vec::new(alloc);
     pointers_with(src, geo, cache, page, buffer, accepted, &mut named)?;

@@ -7,8 +7,9 @@ use Rattle.page_lists.specs.Table.{Table, unused}
 use Rattle.page_walk.specs.Turns.{left_by}
 use Rattle.dbdata_list.specs.Listing.{pages_data}
 use Rattle.dbdata_list.specs.declared.faults.ListFault.TheVariants.{Memory, Sink}
-use Rattle.dbdata_list.proofs.Told.{passed_back, passed_on, told_left, told_out, told_start, told_step, told_with}
-use Rattle.dbdata_list.proofs.Turns.{data_all, data_more}
+use Rattle.dbdata_list.proofs.Reading.{of_more, of_none}
+use Rattle.dbdata_list.proofs.Told.{passed_back, passed_on, told_end, told_left, told_out, told_start, told_step, told_with}
+use Rattle.dbdata_list.proofs.Turns.{data_all, data_more, data_none}
 use Rattle.dbdata_list.proofs.cells.list_data.Goals as goal
 
 pub returns-in_err-table-clause-text : goal.returns-in_err-table-clause-text
@@ -25,6 +26,7 @@ loop-done-init g c = (
   subst (λ (t : Table). 7 ≤ length t.lists) (sym c.in_ok-table.ensures.value) (lit≤ tt),
   new_cached c.in_ok-cache.ensures,
   ap length c.in_ok-accepted.ensures ∙ length-replicate c.args.geo.now.usable false,
+  of_none _ c.args.geo.now _ _ 6 _ c.in_ok-table.ensures.value,
 )
 
 pub returns-in_err-list_cells-clause-text : goal.returns-in_err-list_cells-clause-text
@@ -48,6 +50,8 @@ loop-done-preserved g c = (
   subst (λ (n : ℕ). 7 ≤ n) (sym c.in_ok-list_cells.ensures.lists_kept) c.loop-done.invariant.5,
   cached_at c.in_ok-list_cells.ensures.kept.told c.in_ok-list_cells.ensures.cached,
   c.in_ok-list_cells.ensures.marks ∙ c.loop-done.invariant.7,
+  of_more (g.S.Source.bytes c.args.src.now) (g.S.Source.bytes c.loop-done.src) c.args.geo.now c.loop-done.table c.list_cells.new.table
+      (g.S.Source.reads c.args.src.now) (g.S.Source.reads c.loop-done.src) (g.S.Source.reads c.list_cells.new.src) c.loop-done.done 1 (c.loop-done.done + 1) c.loop-done.invariant.1.told (omega arith) c.loop-done.invariant.8 c.in_ok-list_cells.ensures.reads,
 )
 
 pub returns-in_err-cache-clause-text : goal.returns-in_err-cache-clause-text
@@ -57,3 +61,9 @@ returns-in_err-cache-clause-text g c = told_left _ Sink _ _ _ _ c.from_residual-
 pub returns-in_err-bytes-clause-text : goal.returns-in_err-bytes-clause-text
 returns-in_err-bytes-clause-text g c = told_left _ Sink _ _ _ _ c.from_residual-in_err-bytes.ensures.0
     (λ e. let same : Memory ≡ Sink = passed_on _ Memory Sink c.from_residual-in_err-bytes.ensures.1 e in absurd cc)
+
+pub returns-clause-text : goal.returns-clause-text
+returns-clause-text g c =
+    told_end tt Sink _ _ _ _ _ _ _
+    (λ all. data_none (file_of all c.args.geo.now) c.args.geo.now.pages c.loop-done.done (c.loop-done.done + 1) (unused c.loop-done.table) (omega arith))
+    c.loop-done.invariant.0

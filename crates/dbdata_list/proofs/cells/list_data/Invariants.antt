@@ -5,6 +5,7 @@ use Rattle.page_access.specs.Outside.{KeepsSink}
 use Rattle.page_access.proofs.Keeps.{Passed}
 use Rattle.page_lists.specs.Table.{unused}
 use Rattle.dbdata_list.specs.Listing.{data_text, pages_data}
+use Rattle.dbdata_list.specs.Reads.{FewReadsOf}
 use Rattle.dbdata_list.proofs.Told.{ToldFront}
 use Rattle.dbdata_list.proofs.cells.list_data.Given as goal
 
@@ -22,3 +23,4 @@ invariant-loop-done g l =
     × (7 ≤ length l.table.lists)
     × IsCacheOf (s.bytes l.src) l.geo l.cache
     × (length l.accepted ≡ l.geo.usable)
+    × FewReadsOf (s.bytes l.initial.src) l.geo l.table (s.reads l.initial.src) (s.reads l.src) l.done

@@ -5,6 +5,7 @@ use Rattle.page_access.proofs.Caching.{cached_at, new_cached}
 use Rattle.page_access.proofs.Keeps.{KeepsSink-refl, KeepsSink-trans, not_failed, passed_more, passed_none}
 use Rattle.dbdata_list.specs.Listing.{page_pointers, pages_text, pointers_text}
 use Rattle.dbdata_list.specs.declared.faults.ListFault.TheVariants.{Memory, Sink}
+use Rattle.dbdata_list.proofs.Reading.{few_more, few_none}
 use Rattle.dbdata_list.proofs.Told.{pages_all, pages_more, pages_none, passed_back, passed_on, told_end, told_left, told_out, told_start, told_step}
 use Rattle.dbdata_list.proofs.pointers.list_pointers.Goals as goal
 
@@ -17,6 +18,7 @@ loop-done-init g c = (
   refl,
   new_cached c.in_ok-cache.ensures,
   ap length c.in_ok-accepted.ensures ∙ length-replicate c.args.geo.now.usable false,
+  few_none _ c.args.geo.now _ _,
 )
 
 pub returns-in_err-list_page-clause-text : goal.returns-in_err-list_page-clause-text
@@ -35,6 +37,8 @@ loop-done-preserved g c = (
   not_failed c.in_ok-list_page.ensures.sink.steady ∙ c.loop-done.invariant.3,
   cached_at c.in_ok-list_page.ensures.kept.told c.in_ok-list_page.ensures.cached,
   c.in_ok-list_page.ensures.marks ∙ c.loop-done.invariant.5,
+  few_more (g.S.Source.bytes c.args.src.now) (g.S.Source.bytes c.loop-done.src) c.args.geo.now
+      (g.S.Source.reads c.args.src.now) (g.S.Source.reads c.loop-done.src) (g.S.Source.reads c.list_page.new.src) c.loop-done.done 1 (c.loop-done.done + 1) c.loop-done.invariant.1.told (omega arith) c.loop-done.invariant.6 c.in_ok-list_page.ensures.reads,
 )
 
 pub returns-in_err-cache-clause-text : goal.returns-in_err-cache-clause-text

@@ -4,6 +4,7 @@ use Rattle.page_access.specs.Files.{file_of}
 use Rattle.page_access.specs.Outside.{KeepsSink}
 use Rattle.page_access.proofs.Keeps.{Passed}
 use Rattle.dbdata_list.specs.Listing.{page_pointers, pages_text, pointers_text}
+use Rattle.dbdata_list.specs.Reads.{FewReads}
 use Rattle.dbdata_list.proofs.Told.{ToldFront}
 use Rattle.dbdata_list.proofs.pointers.list_pointers.Given as goal
 
@@ -19,3 +20,4 @@ invariant-loop-done g l =
     × (r.faults l.to ≡ r.faults l.initial.to)
     × IsCacheOf (s.bytes l.src) l.geo l.cache
     × (length l.accepted ≡ l.geo.usable)
+    × FewReads (s.bytes l.initial.src) l.geo (s.reads l.initial.src) (s.reads l.src) l.done

@@ -1,6 +1,6 @@
 -- What is gathered of a file is its plan.
 use Rattle.std.proofs.Common.{◌≡◌, ◌∙◌, ◌++◌, ℕ, false, List, [], Option, Some, None, Result, Ok, Err, IfSome, Vec, ap, append_assoc, length, map, refl, subst, sym}
-use Rattle.std.specs.Prelude.{◌≤◌, IsSomeAnd, IsTrue}
+use Rattle.std.specs.Prelude.{◌≤◌, ◌<◌, ◌^◌, IsSomeAnd, IsTrue}
 use Rattle.std.proofs.lemmas.List.{length-map, map-append}
 use Rattle.std.specs.declared.alloc.Global.{Global}
 use Rattle.std.specs.List.{AllByRecursion, IsDistinct, flat_map}
@@ -22,6 +22,7 @@ use Rattle.tree_uses.specs.declared.walks.TreeUse.{TreeUse}
 use Rattle.use_order.specs.Order.{AreBelow, AreInOrder, AreTreesOf}
 use Rattle.orphan_trees.specs.Orphans.{IsOrphanOf, Orphan, orphan_of}
 use Rattle.orphan_trees.specs.declared.trees.OrphanTree.{OrphanTree}
+use Rattle.orphan_cells.specs.Bounds.{IsRootOn}
 use Rattle.orphan_cells.specs.Orphaned.{AreOrphanCells, orphan_lines}
 use Rattle.orphan_cells.specs.declared.cells.OrphanCells.{OrphanCells}
 use Rattle.input_pages.specs.Input.{is_utf16, left_of}
@@ -187,6 +188,7 @@ pub nothing_is_sound : (g : Gathered) → IsTrue (is_page_size g.page_size) → 
     → g.places.items ≡ [] → g.failed.items ≡ [] → IsSound g
 nothing_is_sound g size least most uses lists tables trees orphans places failed = record {
   valid = no_tables g.db tables;
+  few = subst (AllByRecursion (λ (t : OutTable). length t.rows.items < 2 ^ 32)) (sym tables) tt;
   size = size;
   least = least;
   most = most;
@@ -198,4 +200,5 @@ nothing_is_sound g size least most uses lists tables trees orphans places failed
   placed = ap (map (λ (t : OutTable). length t.rows.items)) tables ∙ sym (ap (map (λ (p : Vec Placed Global). length p.items)) places);
   places = subst (ArePlacesOn g.uses.pages) (sym places) tt;
   failed = subst (AllByRecursion (λ (e : FailedEntry). IsOn g.uses.pages e.place.page e.chain.items)) (sym failed) tt;
+  roots = subst (AllByRecursion (λ (e : FailedEntry). IsRootOn g.uses.pages e.root)) (sym failed) tt;
 }

@@ -135,7 +135,7 @@ empty_back o d g same p = record { database = sym same; none_lost = p.lost_rows;
 
 -- ---- an input
 
-nothing_found : (limit : ℕ) (size reserved : Option ℕ) → pages_of limit size reserved [] ≡ Ok None
+pub nothing_found : (limit : ℕ) (size reserved : Option ℕ) → pages_of limit size reserved [] ≡ Ok None
 unfolding pages_of
 nothing_found limit size reserved = rw (not_over limit) refl
   where
@@ -145,7 +145,7 @@ nothing_found limit size reserved = rw (not_over limit) refl
 empty_of : (o : Options) (g : Gathered) → IsPlanBy o [] (input_of o []) g → IsEmptyPlan o g
 empty_of o g p = subst (λ (r : Result (Option Finding) InputFault). IsPlanBy o [] r g) (nothing_found o.input_limit o.page_size o.reserved) p
 
-plain_input : (o : Options) (all : List ℕ) → ArePlain o → input_of o all ≡ pages_of o.input_limit None None all
+pub plain_input : (o : Options) (all : List ℕ) → ArePlain o → input_of o all ≡ pages_of o.input_limit None None all
 plain_input o all plain =
     ap (λ (size : Option ℕ). pages_of o.input_limit size o.reserved all) plain.page_size
     ∙ ap (λ (reserved : Option ℕ). pages_of o.input_limit None reserved all) plain.reserved

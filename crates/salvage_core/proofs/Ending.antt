@@ -1,9 +1,10 @@
 -- How the writing of three files ends, and so the salvage.
-use Rattle.std.proofs.Common.{◌≡◌, ◌≤◌, ◌<◌, ℕ, Bool, List, Option, Some, None, Result, Ok, Err, IfSome, IsErrOf, arith, subst}
+use Rattle.std.proofs.Common.{◌≡◌, ◌≤◌, ◌<◌, ℕ, Bool, List, Option, Some, None, Result, Ok, Err, IfSome, IsErrOf, arith, inl, subst}
 use Rattle.page_access.specs.Outside.{Gains, GainsPrefix}
 use Rattle.salvage_files.specs.Files.{Finishes, Makes}
 use Rattle.db_builder.specs.Load.{load}
-use Rattle.salvage_core.specs.Outcome.{Ends, EndsOut, EndsWriting, IsCut, IsMade, Outputs, database_of, turn_of}
+use Rattle.db_builder.specs.Valid.{IsValid}
+use Rattle.salvage_core.specs.Outcome.{Ends, EndsOut, EndsWriting, IsCut, IsMade, IsUnmade, Outputs, database_of, turn_of}
 use Rattle.well_formed.specs.Spells.{Spells}
 use Rattle.layout_laws.specs.Written.{database_of as spelled_of}
 use Rattle.well_formed.proofs.Once.{one_database}
@@ -29,12 +30,19 @@ made_of {bytes = bytes} {old = old} {new = new} e m = record {
 pub cut_of : {R T E : Type 0} {bytes created : R → Option (List ℕ)} {finished : R → Bool} {faults : R → ℕ} {text all : List ℕ} {old new : R} {e : E} →
     text ≡ all → Finishes {T = T} bytes created finished faults text old new (Err e) → IsCut all (turn_of bytes created finished faults old new)
 cut_of {bytes = bytes} {old = old} {new = new} e m =
-    record { gained = subst (λ t. GainsPrefix (bytes old) (bytes new) t) e m.writes.err; rose = m.writes.failed }
+    record { gained = subst (λ t. GainsPrefix (bytes old) (bytes new) t) e m.writes.err; rose = m.writes.failed; unfinished = m.unfinished }
+
+pub unmade_of : {R T E : Type 0} {bytes created : R → Option (List ℕ)} {finished : R → Bool} {faults : R → ℕ} {name text all : List ℕ} {old new : R} {e : E} →
+    text ≡ all → Makes {T = T} bytes created finished faults name text old new (Err e) → IsUnmade all (turn_of bytes created finished faults old new)
+unmade_of {bytes = bytes} {old = old} {new = new} e m = record {
+  cut = record { gained = subst (λ t. GainsPrefix (bytes old) (bytes new) t) e m.writes.err; rose = m.writes.failed; unfinished = inl m.unfinished };
+  undone = m.unfinished;
+}
 
 -- what was gathered is written, or is not
 pub ends_of : (o : Options) (told : Option (List ℕ)) (to : Outputs) (g : Gathered) (r : Result Summary Fault) →
-    HavePlaces g.db.tables.items g.places.items → IfSome told (λ all. IsPlan o all g) → EndsOut g o.load_limit to r → Ends o told to r
-ends_of o told to g (Ok s) placed plan e = record {
+    IsValid g.db → HavePlaces g.db.tables.items g.places.items → IfSome told (λ all. IsPlan o all g) → EndsOut g o.load_limit to r → Ends o told to r
+ends_of o told to g (Ok s) valid placed plan e = record {
   plan = g;
   planned = plan;
   holds = told_holds o told g plan;
@@ -50,17 +58,18 @@ ends_of o told to g (Ok s) placed plan e = record {
   rows = e.0.rows;
   lost = e.0.lost;
 }
-ends_of o told to g (Err faults.OutputFault) placed plan e = record { plan = g; planned = plan; database = e }
-ends_of o told to g (Err faults.ScriptFault) placed plan e = record { plan = g; planned = plan; database = e.0; script = e.1 }
-ends_of o told to g (Err faults.ReportFault) placed plan e = record { plan = g; planned = plan; database = e.0; script = e.1.0; report = e.1.1 }
-ends_of o told to g (Err (faults.OutputTooLarge n)) placed plan e = record { plan = g; planned = plan; over = e.0; told_load = e.1 }
-ends_of o None to g (Err faults.Memory) placed plan e = tt
-ends_of o (Some all) to g (Err faults.Memory) placed plan e = tt
-ends_of o told to g (Err faults.InputFault) placed plan e = absurd e
-ends_of o told to g (Err (faults.TooLarge len)) placed plan e = absurd e
-ends_of o told to g (Err faults.NoPageSize) placed plan e = absurd e
-ends_of o told to g (Err (faults.NoWholePage len size)) placed plan e = absurd e
-ends_of o told to g (Err (faults.Utf16 encoding)) placed plan e = absurd e
+ends_of o told to g (Err faults.OutputFault) valid placed plan e = record { plan = g; planned = plan; database = e }
+ends_of o told to g (Err faults.ScriptFault) valid placed plan e = record { plan = g; planned = plan; database = e.0; script = e.1 }
+ends_of o told to g (Err faults.ReportFault) valid placed plan e = record { plan = g; planned = plan; database = e.0; script = e.1.0; report = e.1.1 }
+ends_of o told to g (Err (faults.OutputTooLarge n)) valid placed plan e =
+    record { plan = g; planned = plan; valid = valid; back = told_back o told g placed plan; over = e.0; told_load = e.1 }
+ends_of o None to g (Err faults.Memory) valid placed plan e = tt
+ends_of o (Some all) to g (Err faults.Memory) valid placed plan e = tt
+ends_of o told to g (Err faults.InputFault) valid placed plan e = absurd e
+ends_of o told to g (Err (faults.TooLarge len)) valid placed plan e = absurd e
+ends_of o told to g (Err faults.NoPageSize) valid placed plan e = absurd e
+ends_of o told to g (Err (faults.NoWholePage len size)) valid placed plan e = absurd e
+ends_of o told to g (Err (faults.Utf16 encoding)) valid placed plan e = absurd e
 
 -- nothing was gathered
 pub ends_early : (o : Options) (told : Option (List ℕ)) (to : Outputs) (fault : Fault) → OnlyOfInput {A = Gathered} (Err fault)

@@ -11,6 +11,7 @@ use Rattle.salvage_laws.specs.Told.{AreAmong, IsTold}
 use Rattle.salvage_laws.proofs.Cells.{pages_are_once}
 use Rattle.salvage_laws.proofs.Holding.{salvage_holds}
 use Rattle.salvage_laws.proofs.Telling.{lost_are_told}
+use Rattle.clear_paths.proofs.Rows.{rows_come_back}
 use Rattle.salvage_core.specs.Holds.{Holds, HoldsBy, PlanHolds}
 use Rattle.raw_schema.specs.Schema.{bad_rows, schema_notes}
 use Rattle.orphan_cells.specs.Orphaned.{orphan_lines}
@@ -26,7 +27,7 @@ among all a b c same line has =
     subst (λ (ls : List ReportLine). Contains ls line) (sym same)
     (Contains-append_right a (b ++ c) line (Contains-append_left b c line has))
 
-stored_of : (o : Options) (found : Finding) (left : ℕ) (f : File) (g : Gathered) (p : IsFilePlan o found left f g)
+abbrev stored_of : (o : Options) (found : Finding) (left : ℕ) (f : File) (g : Gathered) (p : IsFilePlan o found left f g)
     → AreStored f (pages_in f) (trunk_of o found) p.fates p.orphans p.cells
 stored_of o found left f g p = record {
   rows = g.schema.items;
@@ -42,12 +43,15 @@ stored_of o found left f g p = record {
 
 plan_holds : (o : Options) (found : Finding) (left : ℕ) (f : File) (g : Gathered) → IsFilePlan o found left f g → PlanHolds o found left f g
 plan_holds o found left f g p =
-    let s : AreStored f (pages_in f) (trunk_of o found) p.fates p.orphans p.cells = stored_of o found left f g p in record {
+    let s : AreStored f (pages_in f) (trunk_of o found) p.fates p.orphans p.cells = stored_of o found left f g p in
+    let into : AreAmong (flat_map fate_lines p.fates) g.lines.items = among g.lines.items
+    (front_lines found left (bad_rows f (pages_in f)) (schema_notes f (pages_in f))) (flat_map fate_lines p.fates)
+    (orphan_lines p.orphans p.cells ++ lost_lines (lost_tables o.lost (schema_names g.schema.items) p.lost)) p.lines in
+    record {
       plan = p;
       cells = salvage_holds f (pages_in f) (trunk_of o found) p.fates p.orphans p.cells s;
-      told = lost_are_told f (pages_in f) (trunk_of o found) p.fates p.orphans p.cells s g.lines.items (among g.lines.items
-          (front_lines found left (bad_rows f (pages_in f)) (schema_notes f (pages_in f))) (flat_map fate_lines p.fates)
-          (orphan_lines p.orphans p.cells ++ lost_lines (lost_tables o.lost (schema_names g.schema.items) p.lost)) p.lines);
+      told = lost_are_told f (pages_in f) (trunk_of o found) p.fates p.orphans p.cells s g.lines.items into;
+      clear = rows_come_back f (trunk_of o found) p.fates p.orphans p.cells s g.lines.items into;
     }
 
 input_holds : (o : Options) (all : List ℕ) (pages : Result (Option Finding) InputFault) (g : Gathered) → IsPlanBy o all pages g → HoldsBy o all pages g

@@ -2,7 +2,12 @@ pub mod Assembling
 pub mod Backing
 pub mod Counting
 pub mod Ending
+pub mod Free
 pub mod Holding
 pub mod Losing
 pub mod Naming
+pub mod Opening
+pub mod Reading
+pub mod Rooting
+pub mod Sizing
 pub mod Using

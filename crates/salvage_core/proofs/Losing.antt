@@ -27,7 +27,7 @@ pub gains_nothing : (base : List ℕ) (names : List (List ℕ)) (lost : List Los
 gains_nothing base names [] tables places ls none = record { tables_are = gains_none tables places; lines_are = sym (append-nil ls) }
 gains_nothing base names (l ∷ lost) tables places ls none = absurd (omega (arith, none))
 
-rows_counted : (rows : List OutRow) (places : List Placed) → length rows ≡ length places → length (rows_at rows places) ≡ length rows
+pub rows_counted : (rows : List OutRow) (places : List Placed) → length rows ≡ length places → length (rows_at rows places) ≡ length rows
 rows_counted [] places even = refl
 rows_counted (o ∷ rows) [] even = absurd (omega (arith, even))
 rows_counted (o ∷ rows) (p ∷ places) even = omega (arith, rows_counted rows places (omega (arith, even)))

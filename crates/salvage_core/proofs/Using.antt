@@ -1,5 +1,5 @@
 -- The uses of the pages of a file, put together.
-use Rattle.std.proofs.Common.{◌≡◌, ℕ, List, Option, Some, None, Result, Ok, Err, IfSome, IsErrOf, inl, inr, map, refl, sym, ◌∙◌, ap, subst}
+use Rattle.std.proofs.Common.{◌≡◌, ℕ, List, Option, Some, None, Result, Ok, Err, IfSome, IsErrOf, inl, inr, ◌≤◌, length, map, refl, sym, ◌∙◌, ap, subst}
 use Rattle.std.specs.Prelude.{IsErr, IsErrAnd}
 use Rattle.page_access.specs.Outside.{HasCauseOf}
 use Rattle.page_access.specs.declared.outside.ReadFault.{ReadFault}
@@ -7,7 +7,9 @@ use Rattle.page_access.specs.declared.outside.ReadFault.TheVariants as ReadFault
 use Rattle.page_access.specs.Files.{file_of}
 use Rattle.page_access.specs.Pages.{File}
 use Rattle.page_access.specs.declared.geometry.Geometry.{Geometry}
+use Rattle.page_lists.specs.Lists.{IsPartOf}
 use Rattle.page_lists.specs.Table.{Table, fresh, unused}
+use Rattle.page_lists.proofs.Moves.{IsPartition-fresh}
 use Rattle.page_walk.specs.Cells.{Outcome}
 use Rattle.orphan_trees.specs.Orphans.{Orphan, orphan_of}
 use Rattle.orphan_uses.specs.Order.{AreOrphans, after_orphans}
@@ -15,7 +17,7 @@ use Rattle.orphan_uses.specs.declared.uses.OrphanUses.{OrphanUses}
 use Rattle.tree_uses.specs.Trees.{Tree, tree_of, turns_of}
 use Rattle.use_order.specs.Order.{AreInOrder, IsSchema, after_uses, behind_uses}
 use Rattle.use_order.specs.declared.uses.FileUses.{FileUses}
-use Rattle.use_order.proofs.Ordered.{at_told, unused_after}
+use Rattle.use_order.proofs.Ordered.{at_told, few_part, unused_after}
 use Rattle.salvage_core.specs.Plan.{pages_in}
 use Rattle.salvage_core.specs.Uses.{AreUses}
 use Rattle.salvage_core.specs.declared.uses.FoundUses.{FoundUses}
@@ -52,6 +54,11 @@ are_uses (Some all) o1 o2 geo t0 t1 t2 trunk u w begun s1 s2 order schema moved 
       moved = at_told (λ bytes. t2 ≡ after_orphans (file_of bytes geo) t1 trunk trees cells) (Some all) o2 all s2 refl placed
           ∙ ap (λ (t : Table). after_orphans f t trunk trees cells) (one ∙ ap (λ (t : Table). after_uses f t tables indexes turns) begun);
     }
+
+-- pages that are part of the unused ones of a new table are no more than its pages
+pub fresh_few : (n more : ℕ) (t : Table) (ps : List ℕ) → t ≡ fresh n more → IsPartOf ps (unused t) → length ps ≤ n
+fresh_few n more t ps begun part =
+    few_part (fresh n more) ps (IsPartition-fresh n more) (subst (λ (u : Table). IsPartOf ps (unused u)) begun part)
 
 named_alike : {T E : Type 0} (a b : E) → IsErrOf {T = T} (Err a) b → a ≡ b
 named_alike a b is = cc

@@ -7,6 +7,8 @@ use Rattle.input_pages.specs.Input.{left_of}
 use Rattle.input_pages.specs.declared.faults.InputFault.{InputFault}
 use Rattle.salvage_laws.specs.Laws.{SalvageHolds}
 use Rattle.salvage_laws.specs.Told.{IsTold}
+use Rattle.clear_paths.specs.Clear.{roots_of}
+use Rattle.clear_paths.specs.Laws.{ClearRowsAreBack}
 use Rattle.salvage_core.specs.Plan.{IsFilePlan, file_by, input_of, pages_in}
 use Rattle.salvage_core.specs.declared.gathered.Gathered.{Gathered}
 use Rattle.salvage_core.specs.declared.options.Options.{Options}
@@ -18,6 +20,8 @@ pub record PlanHolds (o : Options) (found : Finding) (left : ℕ) (f : File) (g 
   pub cells : SalvageHolds f (pages_in f) plan.fates plan.orphans plan.cells
   -- the report tells why a cell of a table's tree is no row of the table
   pub told : AllByRecursion (IsTold g.lines.items) plan.fates
+  -- a row that fits a table that is built, on a clear path from the table's root, is a row of the table, or its clash is told
+  pub clear : AllByRecursion (ClearRowsAreBack f (roots_of g.schema.items) g.lines.items) plan.fates
 
 -- the same of an input with these pages; of an empty one there is nothing to say
 abbrev pub HoldsBy : Options → List ℕ → Result (Option Finding) InputFault → Gathered → Type 0

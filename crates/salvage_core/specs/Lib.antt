@@ -4,5 +4,7 @@ pub mod Holds
 pub mod Lost
 pub mod Outcome
 pub mod Plan
+pub mod Reads
+pub mod Recoverable
 pub mod Sound
 pub mod Uses

@@ -1,5 +1,5 @@
 -- How a salvage ends, and what it leaves in its three sinks (docs/TEXTS.md, "Statuses").
-use Rattle.std.specs.Prelude.{◌≡◌, ◌<◌, ◌≤◌, ℕ, ◌^◌, ◌-◌, min, Bool, true, Option, Some, None, IfSome, List, ◌++◌, length, map, sum_by, Result, Ok, Err, ⊤}
+use Rattle.std.specs.Prelude.{◌≡◌, ◌⊎◌, ◌<◌, ◌≤◌, ℕ, ◌^◌, ◌-◌, min, Bool, true, false, Option, Some, None, IfSome, List, ◌++◌, length, map, sum_by, Result, Ok, Err, ⊤}
 use Rattle.std.specs.List.{flat_map}
 use Rattle.page_access.specs.Outside.{Gains, GainsPrefix, Rose}
 use Rattle.report_text.specs.Lines.{line_text}
@@ -8,6 +8,7 @@ use Rattle.table_shape.specs.declared.rows.OutTable.{OutTable}
 use Rattle.db_builder.specs.Layout.{last_page, layout}
 use Rattle.db_builder.specs.Load.{load}
 use Rattle.db_builder.specs.Trees.{trees_of}
+use Rattle.db_builder.specs.Valid.{IsValid}
 use Rattle.layout_laws.specs.Written.{database_of as spelled_of}
 use Rattle.well_formed.specs.Database.{Database}
 use Rattle.well_formed.specs.Spells.{Spells}
@@ -21,11 +22,13 @@ use Rattle.salvage_core.specs.declared.gathered.Gathered.{Gathered}
 use Rattle.salvage_core.specs.declared.options.Options.{Options}
 use Rattle.salvage_core.specs.declared.recovers.Summary.{Summary}
 
--- what a call leaves of a sink: its bytes before and after, its name, whether it is finished, its faults before and after
+-- what a call leaves of a sink: its bytes before and after, its name, whether it was finished and is, its faults before and
+-- after
 pub record SinkTurn : Type 0 where
   pub before : Option (List ℕ)
   pub after : Option (List ℕ)
   pub name : Option (List ℕ)
+  pub was_finished : Bool
   pub finished : Bool
   pub faults_before : ℕ
   pub faults_after : ℕ
@@ -35,6 +38,7 @@ turn_of bytes created finished faults old new = record {
   before = bytes old;
   after = bytes new;
   name = created new;
+  was_finished = finished old;
   finished = finished new;
   faults_before = faults old;
   faults_after = faults new;
@@ -51,10 +55,16 @@ pub record IsMade (name text : List ℕ) (t : SinkTurn) : Type 0 where
   pub whole : IsWhole text t
   pub name_is : t.name ≡ Some name
 
--- a call of the sink failed, and it gained a front of a text
+-- a call of the sink failed, and it gained a front of a text; it is not finished, or as finished as it was
 pub record IsCut (text : List ℕ) (t : SinkTurn) : Type 0 where
   pub gained : GainsPrefix t.before t.after text
   pub rose : Rose t.faults_before t.faults_after
+  pub unfinished : (t.finished ≡ false) ⊎ (t.finished ≡ t.was_finished)
+
+-- the same of a sink that was to be created first: it is not finished
+pub record IsUnmade (text : List ℕ) (t : SinkTurn) : Type 0 where
+  pub cut : IsCut text t
+  pub undone : t.finished ≡ false
 
 -- ---- the three texts
 
@@ -107,14 +117,14 @@ pub record IsDone (o : Options) (told : Option (List ℕ)) (to : Outputs) (s : S
 pub record StopsAtDatabase (o : Options) (told : Option (List ℕ)) (to : Outputs) : Type 0 where
   pub plan : Gathered
   pub planned : IfSome told (λ all. IsPlan o all plan)
-  pub database : IsCut (database_of plan) to.out_turn
+  pub database : IsUnmade (database_of plan) to.out_turn
 
 -- it is, and the script is not
 pub record StopsAtScript (o : Options) (told : Option (List ℕ)) (to : Outputs) : Type 0 where
   pub plan : Gathered
   pub planned : IfSome told (λ all. IsPlan o all plan)
   pub database : IsMade to.database (database_of plan) to.out_turn
-  pub script : IsCut (script_in plan) to.script_turn
+  pub script : IsUnmade (script_in plan) to.script_turn
 
 -- both are, and the report is not
 pub record StopsAtReport (o : Options) (told : Option (List ℕ)) (to : Outputs) : Type 0 where
@@ -124,10 +134,12 @@ pub record StopsAtReport (o : Options) (told : Option (List ℕ)) (to : Outputs)
   pub script : IsMade to.script (script_in plan) to.script_turn
   pub report : IsCut (report_of plan) to.report_turn
 
--- the database is too large
+-- the database is too large; it could be written, and a well-formed input would come back in it
 pub record IsOver (o : Options) (told : Option (List ℕ)) (load_is : ℕ) : Type 0 where
   pub plan : Gathered
   pub planned : IfSome told (λ all. IsPlan o all plan)
+  pub valid : IsValid plan.db
+  pub back : IfSome told (λ all. ComesBack o all plan)
   pub over : o.load_limit < load plan.db
   pub told_load : load_is ≡ load plan.db
 
@@ -155,9 +167,9 @@ pub record IsWritten (g : Gathered) (to : Outputs) (s : Summary) : Type 0 where
 -- how the writing ends
 abbrev pub EndsWriting : Gathered → Outputs → Result Summary Fault → Type 0
 EndsWriting g to (Ok s) = IsWritten g to s
-EndsWriting g to (Err faults.OutputFault) = IsCut (database_of g) to.out_turn
+EndsWriting g to (Err faults.OutputFault) = IsUnmade (database_of g) to.out_turn
 EndsWriting g to (Err faults.ScriptFault) =
-    IsMade to.database (database_of g) to.out_turn × IsCut (script_in g) to.script_turn
+    IsMade to.database (database_of g) to.out_turn × IsUnmade (script_in g) to.script_turn
 EndsWriting g to (Err faults.ReportFault) =
     IsMade to.database (database_of g) to.out_turn
     × (IsMade to.script (script_in g) to.script_turn × IsCut (report_of g) to.report_turn)

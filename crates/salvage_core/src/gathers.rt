@@ -1,11 +1,12 @@
 //! What the bytes of an input give.
-ghost use Rattle.std.specs.Prelude.{◌≡◌, ◌≤◌, ◌^◌, unwrap_or, IsTrue, Some, IfOk, IfSome, OnOk};
+ghost use Rattle.std.specs.Prelude.{◌≡◌, ◌≤◌, ◌+◌, ◌^◌, unwrap_or, IsTrue, Some, IfOk, IfSome, OnOk};
 ghost use Rattle.page_access.specs.Outside.{HasCauseOf, KeepsSource};
 ghost use Rattle.page_access.specs.Pages.{is_page_size};
 ghost use Rattle.page_size.specs.Rule.{finding};
 ghost use Rattle.input_pages.specs.Input.{IsWithin, left_of};
 ghost use Rattle.salvage_core.specs.Outcome.{HasNumbers};
 ghost use Rattle.salvage_core.specs.Plan.{AreOptions, Gathers, IsEmptyPlan, IsPagesAnswer, IsReadAnswer, trunk_of};
+ghost use Rattle.salvage_core.specs.Reads.{ReadsFew, most_reads, page_reads};
 ghost use Rattle.salvage_core.specs.Sound.{IsSound, OnlyOfInput};
 
 use crate::assemble::assemble;
@@ -39,6 +40,8 @@ pub fn gather<S: Source>(
     ensures only { OnlyOfInput result }
     ensures cause { HasCauseOf Fault.InputFault (S.faults src.old) (S.faults src.new) result }
     ensures bytes { S.bytes src.new ≡ S.bytes src.old }
+    ensures reads { IfSome (S.bytes src.old)
+        (λ all. S.reads src.new ≤ S.reads src.old + most_reads opts.now all) }
 {
     match open_input(
         alloc,
@@ -118,6 +121,8 @@ fn gather_pages<S: Source>(
     ensures only { IsReadAnswer result }
     ensures cause { HasCauseOf Fault.InputFault (S.faults src.old) (S.faults src.new) result }
     ensures kept { KeepsSource S.bytes S.attached S.faults S.reads src.old src.new }
+    ensures reads { ReadsFew (S.bytes src.old) input.now.found.geometry
+        (S.reads src.old) (S.reads src.new) (page_reads input.now.found.geometry.pages + 1) }
 {
     let found = &input.found;
     if is_utf16(found) {

@@ -7,6 +7,7 @@ mod faults;
 mod fronts;
 mod gathered;
 mod gathers;
+mod laws;
 mod lost;
 mod options;
 mod recovers;
@@ -15,6 +16,7 @@ mod uses;
 pub use faults::Fault;
 pub use gathered::Gathered;
 pub use gathers::gather;
+pub use laws::a_well_formed_input_is_never_barred;
 pub use options::Options;
 pub use recovers::{Summary, recover};
 

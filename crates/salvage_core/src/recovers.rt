@@ -1,9 +1,10 @@
 //! The salvage.
-ghost use Rattle.std.specs.Prelude.{◌≡◌, ◌≤◌, ◌^◌, ◌-◌, min, length, sum_by, Some, OnOk, string_bytes};
+ghost use Rattle.std.specs.Prelude.{◌≡◌, ◌≤◌, ◌+◌, ◌^◌, ◌-◌, min, length, sum_by, Some, IfSome, OnOk, string_bytes};
 ghost use Rattle.page_access.specs.Outside.{HasCauseOf};
 ghost use Rattle.table_shape.specs.declared.rows.OutTable.{OutTable};
 ghost use Rattle.db_builder.specs.Prepared.{IsPrepared};
 ghost use Rattle.salvage_core.specs.Plan.{AreOptions};
+ghost use Rattle.salvage_core.specs.Reads.{most_reads};
 ghost use Rattle.salvage_core.specs.Sound.{IsSound};
 ghost use Rattle.salvage_core.specs.Outcome.{Ends, EndsOut, EndsWriting, HasNumbers, IsBefore, IsBeforeReport, IsBeforeScript, turn_of};
 
@@ -62,6 +63,8 @@ pub fn recover<S: Source, O: Sink, T: Sink, R: Sink>(
 
     // what stays
     ensures source_bytes { S.bytes src.new ≡ S.bytes src.old }
+    ensures reads { IfSome (S.bytes src.old)
+        (λ all. S.reads src.new ≤ S.reads src.old + most_reads opts.now all) }
     ensures out_kept { IsBefore result → out.new ≡ out.old }
     ensures script_kept { IsBeforeScript result → script.new ≡ script.old }
     ensures report_kept { IsBeforeReport result → report.new ≡ report.old }

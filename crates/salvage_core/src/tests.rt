@@ -23,12 +23,18 @@ fn options(alloc: Global, load_limit: u64) -> Result<Options, AllocError>
     })
 }
 
-// The answer of a salvage of these bytes, and how many bytes it put into the sink of the database.
-fn recovered(
-    alloc: Global,
-    bytes: Vec<u8>,
-    load_limit: u64,
-) -> Result<(Result<Summary, Fault>, usize), Fail>
+// What a salvage did.
+#[derive(Drop)]
+struct Done {
+    answer: Result<Summary, Fault>,
+    // bytes in the sink of the database
+    written: usize,
+    // how often the input was read
+    reads: u64,
+}
+
+// A salvage of these bytes.
+fn recovered(alloc: Global, bytes: Vec<u8>, load_limit: u64) -> Result<Done, Fail>
     requires { load_limit ≤ 2 ^ 35 }
 {
     let mut src = MemSource::new(bytes, Vec::new(alloc));
@@ -46,7 +52,11 @@ fn recovered(
         &mut script,
         &mut report,
     );
-    Ok((answer, out.bytes().len()))
+    Ok(Done {
+        answer,
+        written: out.bytes().len(),
+        reads: src.reads(),
+    })
 }
 
 // Writes a piece at a place, as far as there is room.
@@ -84,30 +94,30 @@ fn two_rows(alloc: Global) -> Result<Vec<u8>, Fail> {
 #[test]
 fn a_file_of_two_pages_comes_back(rt: HostRuntime) -> Result<(), Fail> {
     let alloc = rt.alloc();
-    let (answer, len) = recovered(alloc, two_rows(alloc)?, 1 << 32)?;
+    let done = recovered(alloc, two_rows(alloc)?, 1 << 32)?;
     let summary = Summary {
         pages_in: 2,
         pages_out: 2,
         rows: 2,
         lost: 0,
     };
-    assert!(rt; answer == Ok(summary));
-    assert_eq!(rt; len, 1024);
+    assert!(rt; done.answer == Ok(summary));
+    assert_eq!(rt; done.written, 1024);
     Ok(())
 }
 
 #[test]
 fn an_empty_file_gives_a_database_of_one_page(rt: HostRuntime) -> Result<(), Fail> {
     let alloc = rt.alloc();
-    let (answer, len) = recovered(alloc, Vec::new(alloc), 1 << 32)?;
+    let done = recovered(alloc, Vec::new(alloc), 1 << 32)?;
     let summary = Summary {
         pages_in: 0,
         pages_out: 1,
         rows: 0,
         lost: 0,
     };
-    assert!(rt; answer == Ok(summary));
-    assert_eq!(rt; len, 4096);
+    assert!(rt; done.answer == Ok(summary));
+    assert_eq!(rt; done.written, 4096);
     Ok(())
 }
 
@@ -115,8 +125,18 @@ fn an_empty_file_gives_a_database_of_one_page(rt: HostRuntime) -> Result<(), Fai
 #[test]
 fn a_load_over_the_limit_is_told(rt: HostRuntime) -> Result<(), Fail> {
     let alloc = rt.alloc();
-    let (answer, len) = recovered(alloc, two_rows(alloc)?, 100)?;
-    assert!(rt; answer == Err(Fault::OutputTooLarge { load: 141 }));
-    assert_eq!(rt; len, 0);
+    let done = recovered(alloc, two_rows(alloc)?, 100)?;
+    assert!(rt; done.answer == Err(Fault::OutputTooLarge { load: 141 }));
+    assert_eq!(rt; done.written, 0);
+    Ok(())
+}
+
+// The header, and each page once.
+#[test]
+fn a_file_of_two_pages_takes_three_reads(rt: HostRuntime) -> Result<(), Fail> {
+    let alloc = rt.alloc();
+    let done = recovered(alloc, two_rows(alloc)?, 1 << 32)?;
+    assert!(rt; done.answer.is_ok());
+    assert_eq!(rt; done.reads, 3);
     Ok(())
 }

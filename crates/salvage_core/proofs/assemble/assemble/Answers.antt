@@ -1,4 +1,4 @@
-use Rattle.std.proofs.Common.{◌≡◌, ◌<◌, ◌∙◌, ◌++◌, ℕ, List, Vec, Global, ap, arith, length, map, refl, subst, sym}
+use Rattle.std.proofs.Common.{◌≡◌, ◌<◌, ◌∙◌, ◌++◌, ◌*◌, ◌/◌, ◌^◌, ℕ, List, Vec, Global, ap, arith, length, map, refl, subst, sym}
 use Rattle.std.specs.List.{AllByRecursion}
 use Rattle.std.proofs.lemmas.List.{map-append}
 use Rattle.page_size.specs.Rule.{finding}
@@ -7,15 +7,17 @@ use Rattle.page_walk.proofs.Going.{all_append}
 use Rattle.page_walk.specs.declared.outcomes.TakenCell.{TakenCell}
 use Rattle.raw_schema.specs.declared.rows.SchemaRow.{SchemaRow}
 use Rattle.report_text.specs.declared.ReportLine.{ReportLine}
-use Rattle.orphan_trees.specs.Orphans.{IsOrphanOf, orphan_of}
+use Rattle.orphan_trees.specs.Orphans.{IsOrphanOf, orphan_of, tree_pages}
 use Rattle.orphan_trees.specs.declared.trees.OrphanTree.{OrphanTree}
+use Rattle.orphan_cells.specs.Bounds.{IsRootOn}
 use Rattle.orphan_cells.specs.Orphaned.{AreOrphanCells}
 use Rattle.schema_texts.specs.Readings.{AreReadings}
 use Rattle.table_shape.specs.declared.rows.OutTable.{OutTable}
-use Rattle.tree_uses.specs.Trees.{IsTreeOf, Tree, tree_of, turns_of}
+use Rattle.tree_uses.specs.Trees.{IsTreeOf, Tree, pages_of, tree_of, turns_of}
 use Rattle.tree_uses.specs.declared.walks.TreeUse.{TreeUse}
 use Rattle.use_order.specs.Order.{AreBelow, AreTreesOf}
 use Rattle.salvaged_tables.specs.Bounds.{ArePlacesOn, IsLostOn, IsOn}
+use Rattle.salvaged_tables.specs.Fates.{StoredTable}
 use Rattle.salvaged_tables.specs.Salvaged.{HavePlaces, IsSalvage, lost_seen}
 use Rattle.salvaged_tables.specs.declared.places.FailedEntry.{FailedEntry}
 use Rattle.salvaged_tables.specs.declared.places.LostCell.{LostCell}
@@ -26,6 +28,8 @@ use Rattle.salvage_core.specs.Plan.{front_lines}
 use Rattle.salvage_core.proofs.Assembling.{is_plan, is_valid}
 use Rattle.salvage_core.proofs.Losing.{have_few, joined_on, orphans_on, schema_on}
 use Rattle.salvage_core.proofs.Naming.{salvage_named}
+use Rattle.salvage_core.proofs.Rooting.{salvage_roots}
+use Rattle.salvage_core.proofs.Sizing.{AreFew, all_tables_few, cells_limit, cells_within, fates_few, lost_together, trees_few}
 use Rattle.salvage_core.proofs.assemble.assemble.Goals as goal
 
 pub orphan_cells-requires-clause-few : goal.orphan_cells-requires-clause-few
@@ -117,6 +121,12 @@ returns-clause-sound c =
     c.in_ok-append-4.ensures.items c.in_ok-append-5.ensures.items in
     let all_trees : map tree_of c.append-6.new.self.items ≡ map tree_of u.uses.tables.items ++ map tree_of u.uses.indexes.items =
     ap (map tree_of) c.in_ok-append-6.ensures.items ∙ map-append tree_of u.uses.tables.items u.uses.indexes.items in
+    let n : ℕ = geo.pages * (geo.usable / 2) in
+    let salvage = c.in_ok-salvaged.ensures.salvage in
+    let few : AreFew n salvage.fates =
+    fates_few n c.deref-3.result.now u.uses.readings.items (map tree_of c.deref-4.result.now) (map turns_of u.uses.turns.items) salvage.fates salvage.are
+    (cells_within geo.usable geo.pages _ _ (trees_few geo.usable geo.pages pages_of (map tree_of u.uses.tables.items) (map turns_of u.uses.turns.items)
+    rs.each rs.small) rs.few) in
     let named : AreOfSchema c.deref-6.result.now v.tables.items =
     subst (λ (rs : List SchemaRow). AreOfSchema rs v.tables.items) (c.deref-3.ensures.value ∙ sym c.deref-6.ensures.value)
     (salvage_named c.deref-3.result.now u.uses.readings.items (map tree_of c.deref-4.result.now) (map turns_of u.uses.turns.items) v c.in_ok-salvaged.ensures.salvage) in
@@ -125,6 +135,19 @@ returns-clause-sound c =
           (c.in_ok-add_lost_table.ensures.valid
           (c.in_ok-salvaged.ensures.valid rs.kinds geo.pages
           (subst (λ (rows : List SchemaRow). AreReadings rs.kinds geo.pages rows u.uses.readings.items) (sym c.deref-3.ensures.value) rs.readings)) named);
+      few = subst (λ (ts : Vec OutTable Global). AllByRecursion (λ (t : OutTable). length t.rows.items < 2 ^ 32) ts.items) (sym c.database.ensures.tables)
+          (all_tables_few n c.args.opts.now.lost (schema_names c.deref-6.result.now) c.append-5.new.self.items c.add_lost_table.new.tables.items
+          c.add_lost_table.new.places.items salvage.fates
+          (cells_limit geo.usable geo.pages geo.page_size c.args.input.now.left geo.usable_most c.requires.within.fits) few
+          (lost_together n u.uses.schema.bad.items salvage.fates (map orphan_of c.deref-5.result.now) (map turns_of u.orphans.turns.items)
+          c.in_ok-lost.lost.items v.lost.items w.lost.items c.append-4.new.self.items c.append-5.new.self.items rs.few_bad few
+          (cells_within geo.usable geo.pages _ _ (trees_few geo.usable geo.pages tree_pages (map orphan_of u.orphans.trees.items) (map turns_of u.orphans.turns.items)
+          c.requires.orphans.each c.requires.orphans.small) c.requires.orphans.few)
+          c.in_ok-lost.ensures salvage.salvaged.lost c.in_ok-cells.ensures.cells.lost_are c.in_ok-append-4.ensures.items c.in_ok-append-5.ensures.items)
+          (c.in_ok-add_lost_table.ensures.added.tables_are.placed salvage.salvaged.places)
+          (c.in_ok-add_lost_table.ensures.added.tables_are.gained salvage.salvaged.places
+          ∙ ap (λ (ts : List StoredTable). ts ++ lost_tables c.args.opts.now.lost (schema_names c.deref-6.result.now) (map lost_seen c.append-5.new.self.items))
+          salvage.salvaged.tables));
       size = geo.size_power;
       least = geo.size_least;
       most = geo.size_most;
@@ -144,4 +167,11 @@ returns-clause-sound c =
       failed = subst (λ (n : ℕ). AllByRecursion (λ (e : FailedEntry). IsOn n e.place.page e.chain.items) c.append-3.new.self.items) (sym same)
           (subst (AllByRecursion (λ (e : FailedEntry). IsOn geo.pages e.place.page e.chain.items)) (sym c.in_ok-append-3.ensures.items)
           (all_append (λ (e : FailedEntry). IsOn geo.pages e.place.page e.chain.items) v.failed.items w.failed.items bounds.failed orphan_bounds.failed));
+      roots = subst (λ (n : ℕ). AllByRecursion (λ (e : FailedEntry). IsRootOn n e.root) c.append-3.new.self.items) (sym same)
+          (subst (AllByRecursion (λ (e : FailedEntry). IsRootOn geo.pages e.root)) (sym c.in_ok-append-3.ensures.items)
+          (all_append (λ (e : FailedEntry). IsRootOn geo.pages e.root) v.failed.items w.failed.items
+          (salvage_roots geo.pages c.deref-3.result.now u.uses.readings.items (map tree_of u.uses.tables.items) (map turns_of u.uses.turns.items) v
+          rs.each rs.tables (subst (λ (ts : List TreeUse). IsSalvage c.deref-3.result.now u.uses.readings.items (map tree_of ts) (map turns_of u.uses.turns.items) v)
+          c.deref-4.ensures.value salvage))
+          orphan_bounds.failed_roots));
     }

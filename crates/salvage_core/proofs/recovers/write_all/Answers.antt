@@ -6,8 +6,18 @@ use Rattle.report_text.specs.declared.ReportLine.TheVariants as lines
 use Rattle.db_builder.specs.Layout.{last_page, layout}
 use Rattle.db_builder.specs.Trees.{trees_of}
 use Rattle.salvage_files.specs.Files.{text_part}
-use Rattle.salvage_core.proofs.Ending.{cut_of, made_of}
+use Rattle.salvage_core.proofs.Ending.{cut_of, made_of, unmade_of}
 use Rattle.salvage_core.proofs.recovers.write_all.Goals as goal
+
+pub returns-in_default-clause-ends : goal.returns-in_default-clause-ends
+returns-in_default-clause-ends g c =
+    unmade_of (ap (λ (size : ℕ). layout size c.args.gathered.now.db) c.requires.size) c.in_default.ensures.makes
+
+pub returns-in_default-write_script-clause-ends : goal.returns-in_default-write_script-clause-ends
+returns-in_default-write_script-clause-ends g c = (
+  made_of (ap (λ (size : ℕ). layout size c.args.gathered.now.db) c.requires.size) c.in-Ok.ensures.makes,
+  unmade_of (ap (flat_map text_part) c.deref.ensures.value) c.in_default-write_script.ensures.makes,
+)
 
 pub returns-in_default-write_report-clause-ends : goal.returns-in_default-write_report-clause-ends
 returns-in_default-write_report-clause-ends g c =

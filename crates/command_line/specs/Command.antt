@@ -5,12 +5,12 @@ use Rattle.clap.specs.Lexer.{usize_max}
 use Rattle.clap.specs.Simple.{on_top}
 use Rattle.clap.specs.Walk.{is_empty}
 use Rattle.clap.specs.declared.builder.action.ArgAction.TheVariants.{SetTrue}
-use Rattle.command_line.specs.Parts.{Word, Asked, FileAsked, Lists, RecoveryAsked, Recovers, Values, asked_of, is_given}
+use Rattle.command_line.specs.Parts.{Word, Asked, FileAsked, Lists, RecoveryAsked, Recovers, Tries, Values, asked_of, is_given}
 use Rattle.command_line.specs.declared.options.OptionWords.{OptionWords}
 use Rattle.command_line.specs.declared.request.InputFile.{InputFile}
 use Rattle.command_line.specs.declared.request.Recovery.{Recovery}
 use Rattle.command_line.specs.declared.request.Request.{Request}
-use Rattle.command_line.specs.declared.request.Request.TheVariants.{List as lists, Recover as recovers}
+use Rattle.command_line.specs.declared.request.Request.TheVariants.{List as lists, Recover as recovers, Try as tries}
 
 -- the first word of a command names its mode
 abbrev pub mode_rule : Rule
@@ -90,3 +90,4 @@ recovery_view r = record {
 abbrev pub view : Request → Asked
 view (lists listing file) = Lists listing (file_view file)
 view (recovers recovery) = Recovers (recovery_view recovery)
+view (tries trial) = Tries trial.rows

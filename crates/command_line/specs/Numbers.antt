@@ -1,5 +1,5 @@
 -- Numbers on the command line (docs/TEXTS.md, "Command line").
-use Rattle.std.specs.Prelude.{ℕ, ◌+◌, ◌-◌, ◌*◌, ◌==◌, ◌&&◌, nat_lt, not, Bool, false, if◌then◌else◌, List, [], ◌∷◌, length, Option, Some, None}
+use Rattle.std.specs.Prelude.{ℕ, ◌+◌, ◌-◌, ◌*◌, ◌==◌, ◌&&◌, nat_le, nat_lt, not, Bool, false, if◌then◌else◌, List, [], ◌∷◌, length, Option, Some, None}
 use Rattle.std.specs.List.{list_all}
 use Rattle.std.specs.Char.{is_ascii_digit}
 use Rattle.page_access.specs.Pages.{is_page_size}
@@ -29,6 +29,10 @@ where_true test (Some n) = if test n then Some n else None
 -- one of the eight page sizes
 abbrev pub page_size_of : List ℕ → Option ℕ
 page_size_of text = where_true is_page_size (number_of text)
+
+-- a number of rows of a trial: 0 to 100000
+abbrev pub rows_of : List ℕ → Option ℕ
+rows_of text = where_true (λ n. nat_le n 100000) (number_of text)
 
 -- a number of 0 to 255
 abbrev pub reserved_of : List ℕ → Option ℕ

@@ -1,9 +1,9 @@
 -- What a command asks for (docs/TEXTS.md, "Command line").
-use Rattle.std.specs.Prelude.{ℕ, ◌-◌, nat_le, Bool, not, true, false, ◌||◌, if◌then◌else◌, List, [], ◌∷◌, codes, Option, Some, None, is_some, option_and_then, option_map}
+use Rattle.std.specs.Prelude.{ℕ, ◌-◌, nat_le, Bool, not, true, false, ◌&&◌, ◌||◌, if◌then◌else◌, List, [], ◌∷◌, codes, Option, Some, None, is_none, is_some, option_and_then, option_map}
 use Rattle.std.specs.Option.{option_map_or}
 use Rattle.std.specs.Str.{bytes_eq}
 use Rattle.command_line.specs.Names.{is_lost_name}
-use Rattle.command_line.specs.Numbers.{page_size_of, reserved_of}
+use Rattle.command_line.specs.Numbers.{page_size_of, reserved_of, rows_of}
 use Rattle.command_line.specs.declared.request.Listing.{Listing}
 use Rattle.command_line.specs.declared.request.Listing.TheVariants.{Dbdata, Dbptr, Schema}
 
@@ -29,10 +29,11 @@ pub record RecoveryAsked : Type 0 where
   -- the name of the table of lost rows
   pub lost : Option Word
 
--- what a command asks for: an input is listed, or it is recovered
+-- what a command asks for: an input is listed, or it is recovered, or there is a trial of so many rows
 pub data Asked : Type 0 where
   Lists : Listing → FileAsked → Asked
   Recovers : RecoveryAsked → Asked
+  Tries : ℕ → Asked
 
 -- the values of the options, as words
 pub record Values : Type 0 where
@@ -84,6 +85,15 @@ file_of name values =
 abbrev pub is_for_pages : Values → Bool
 is_for_pages values = not (values.freelist_corrupt || is_some values.lost)
 
+-- no option is given
+abbrev pub is_plain : Values → Bool
+is_plain values = is_none values.page_size && (is_none values.reserved && is_for_pages values)
+
+-- a trial of so many rows
+unfoldable pub trial_of : Option (List Word) → Values → Option Asked
+trial_of words values =
+    if is_plain values then option_and_then (λ text. option_map Tries (rows_of text)) (only_word words) else None
+
 -- a listing of one input
 unfoldable pub list_of : Listing → Option (List Word) → Values → Option Asked
 list_of listing words values =
@@ -109,4 +119,5 @@ recovery_of words values =
 unfoldable pub asked_of : Option Word → Option (List Word) → Values → Option Asked
 asked_of mode words values = option_and_then (λ m.
     if bytes_eq m (codes "recover") then option_map Recovers (recovery_of words values)
-    else option_and_then (λ listing. list_of listing words values) (listing_of m)) mode
+    else (if bytes_eq m (codes "trial") then trial_of words values
+    else option_and_then (λ listing. list_of listing words values) (listing_of m))) mode

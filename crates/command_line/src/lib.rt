@@ -7,7 +7,7 @@ mod options;
 mod request;
 mod words;
 
-pub use request::{InputFile, Listing, Recovery, Request};
+pub use request::{InputFile, Listing, Recovery, Request, Trial};
 pub use words::{WordsFault, read_words};
 
 #[cfg(test)]

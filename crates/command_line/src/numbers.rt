@@ -1,9 +1,12 @@
 //! Values of options.
-ghost use Rattle.std.specs.Prelude.{◌≡◌, ◌^◌, nat_lt, IfSome, IsTrue};
+ghost use Rattle.std.specs.Prelude.{◌≡◌, ◌≤◌, ◌^◌, nat_lt, IfSome, IsTrue};
 ghost use Rattle.std.specs.List.{list_all};
 ghost use Rattle.std.specs.Char.{is_ascii_digit};
 ghost use Rattle.page_access.specs.Pages.{is_page_size};
-ghost use Rattle.command_line.specs.Numbers.{has_leading_zero, number_of, page_size_of, reserved_of, where_true};
+ghost use Rattle.command_line.specs.Numbers.{has_leading_zero, number_of, page_size_of, reserved_of, rows_of, where_true};
+
+// The most rows of a trial.
+const MOST_ROWS: u32 = 100000;
 
 const PAGE_SIZES: [u32; 8] = [512, 1024, 2048, 4096, 8192, 16384, 32768, 65536];
 
@@ -18,6 +21,15 @@ pub(crate) fn page_size_in(text: &str) -> Option<u32>
     } else {
         None
     }
+}
+
+/// The number of rows that the text writes, at most 100000.
+pub(crate) fn rows_in(text: &str) -> Option<u32>
+    ensures value { result ≡ rows_of text.now }
+    ensures few { IfSome result (λ n. n ≤ 100000) }
+{
+    let rows = number_in(text)?;
+    if rows <= MOST_ROWS { Some(rows) } else { None }
 }
 
 /// The number of reserved bytes that the text writes, from 0 to 255.

@@ -3,7 +3,7 @@ ghost use Rattle.std.specs.Prelude.{◌≡◌, ◌≤◌, ◌+◌, IfSome, IsTru
 ghost use Rattle.page_access.specs.Pages.{is_page_size};
 ghost use Rattle.command_line.specs.Command.{file_view, values_of};
 ghost use Rattle.command_line.specs.Numbers.{page_size_of, reserved_of};
-ghost use Rattle.command_line.specs.Parts.{file_of, has_lost_name, is_for_pages, leaves_enough, read_option};
+ghost use Rattle.command_line.specs.Parts.{file_of, has_lost_name, is_for_pages, is_plain, leaves_enough, read_option};
 
 use crate::names::is_lost_name;
 use crate::numbers::{page_size_in, reserved_in};
@@ -40,6 +40,13 @@ pub(crate) fn is_for_pages(options: &OptionWords<'_>) -> bool
     ensures { result ≡ is_for_pages (values_of options.now) }
 {
     !(options.freelist_corrupt || options.lost.is_some())
+}
+
+/// Whether no option is given.
+pub(crate) fn is_plain(options: &OptionWords<'_>) -> bool
+    ensures { result ≡ is_plain (values_of options.now) }
+{
+    options.page_size.is_none() && options.reserved.is_none() && is_for_pages(options)
 }
 
 /// Whether the name for the lost rows is in order, where it is given.

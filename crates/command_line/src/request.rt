@@ -46,6 +46,14 @@ pub struct Recovery<'a> {
     ghost lost_is: { IfSome lost (λ name. IsTrue (is_lost_name name.now)) } by { Prim.hlevel props },
 }
 
+/// A trial: a database of so many rows is made and recovered.
+#[derive(Clone, Copy, Debug)]
+pub struct Trial {
+    /// Rows of the database, at most 100000.
+    pub rows: u32,
+    ghost few: { rows ≤ 100000 },
+}
+
 /// A command.
 #[derive(Clone, Copy, Debug)]
 pub enum Request<'a> {
@@ -53,4 +61,6 @@ pub enum Request<'a> {
     List(Listing, InputFile<'a>),
     /// An input is recovered.
     Recover(Recovery<'a>),
+    /// There is a trial.
+    Try(Trial),
 }

@@ -45,6 +45,30 @@ fn is_none(alloc: Global, words: &[&str]) -> Result<bool, Fail> {
     Ok(matches!(read_words(alloc, &owned), Err(WordsFault::Usage)))
 }
 
+// The rows of a trial, where the words ask for one.
+fn tried(alloc: Global, words: &[&str]) -> Result<Option<u32>, Fail> {
+    let owned = owned(alloc, words)?;
+    Ok(match read_words(alloc, &owned) {
+        Ok(Request::Try(trial)) => Some(trial.rows),
+        _ => None,
+    })
+}
+
+#[test]
+fn a_trial_has_a_number_of_rows_and_no_option(rt: HostRuntime) -> Result<(), Fail> {
+    let alloc = rt.alloc();
+    assert_eq!(rt; tried(alloc, &["trial", "0"])?, Some(0));
+    assert_eq!(rt; tried(alloc, &["trial", "100000"])?, Some(100000));
+    assert_eq!(rt; tried(alloc, &["trial", "100001"])?, None);
+    assert_eq!(rt; tried(alloc, &["trial", "03"])?, None);
+    assert_eq!(rt; tried(alloc, &["trial", "+3"])?, None);
+    assert_eq!(rt; tried(alloc, &["trial"])?, None);
+    assert_eq!(rt; tried(alloc, &["trial", "3", "4"])?, None);
+    assert_eq!(rt; tried(alloc, &["trial", "3", "--reserved", "0"])?, None);
+    assert_eq!(rt; tried(alloc, &["trial", "3", "--freelist-corrupt"])?, None);
+    Ok(())
+}
+
 #[test]
 fn words_are_a_command_or_not(rt: HostRuntime) -> Result<(), Fail> {
     let alloc = rt.alloc();
@@ -64,7 +88,6 @@ fn words_are_a_command_or_not(rt: HostRuntime) -> Result<(), Fail> {
     assert_eq!(rt; asked(alloc, &["dbdata", "-"])?, Some((0, 0)));
     assert_eq!(rt; asked(alloc, &["dbdata", ""])?, Some((0, 0)));
     assert_eq!(rt; asked(alloc, &["schema", "a"])?, Some((0, 0)));
-    assert_eq!(rt; asked(alloc, &["trial", "3"])?, None);
     assert_eq!(rt; asked(alloc, &[])?, None);
     assert_eq!(rt; asked(alloc, &["dbdata"])?, None);
     assert_eq!(rt; asked(alloc, &["dbdata", "a", "b"])?, None);

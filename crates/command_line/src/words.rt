@@ -2,10 +2,11 @@
 ghost use Rattle.std.specs.Prelude.{◌≡◌, ◌≢◌, ◌↔◌, None, Some, IfOk, IsErrOf, map, option_map, string_bytes};
 ghost use Rattle.clap.specs.Words.{app_of, found_of, rows_of, kind_of};
 ghost use Rattle.command_line.specs.Command.{app, asked_in, command_of, recovery_view, values_of, view, words_app};
-ghost use Rattle.command_line.specs.Parts.{asked_of, is_given, list_of, listing_of, recovery_of};
+ghost use Rattle.command_line.specs.Parts.{asked_of, is_given, list_of, listing_of, recovery_of, trial_of};
 
-use crate::options::{OptionWords, file_of, has_lost_name, is_for_pages};
-use crate::request::{Listing, Recovery, Request};
+use crate::numbers::rows_in;
+use crate::options::{OptionWords, file_of, has_lost_name, is_for_pages, is_plain};
+use crate::request::{Listing, Recovery, Request, Trial};
 use clap::error::ErrorKind;
 use clap::{Arg, ArgAction, ArgMatches, Command, Error};
 use std::alloc::{AllocError, Global};
@@ -122,7 +123,26 @@ fn asked_of<'a>(
     if mode == "recover" {
         return Some(Request::Recover(recovery_of(words, options)?));
     }
+    if mode == "trial" {
+        return trial_of(words, options);
+    }
     list_of(listing_in(mode)?, words, options)
+}
+
+// A trial of so many rows.
+#[tactic(auto, unfolding(crate::specs::Parts::trial_of))]
+fn trial_of<'a>(words: Option<&[&'a str]>, options: &OptionWords<'a>) -> Option<Request<'a>>
+    ensures { option_map view result ≡ trial_of
+        (option_map (λ s. map (λ w. w.now) s.now) words.entry) (values_of options.now) }
+{
+    if !is_plain(options) {
+        return None;
+    }
+    let Some([text]) = words else {
+        return None;
+    };
+    let rows = rows_in(text)?;
+    Some(Request::Try(Trial { rows }))
 }
 
 // A listing of one input.

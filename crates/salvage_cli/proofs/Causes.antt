@@ -1,7 +1,7 @@
 -- What a status says of the told bytes.
 use Rattle.std.proofs.Common.{◌≡◌, ◌∙◌, ◌⊎◌, ◌<◌, ◌^◌, ℕ, Bool, true, false, List, length, Option, Some, None, Result, Ok, Err, ap, subst, inl, inr, refl, sym, arith, if◌then◌else◌}
 use Rattle.std.specs.Prelude.{IfSome, IsErrOf, IsOk}
-use Rattle.command_line.specs.Parts.{Asked, FileAsked, Lists, RecoveryAsked, Recovers}
+use Rattle.command_line.specs.Parts.{Asked, FileAsked, Lists, RecoveryAsked, Recovers, Tries}
 use Rattle.command_line.specs.declared.request.Listing.{Listing}
 use Rattle.page_size.specs.Rule.{Finding}
 use Rattle.input_pages.specs.Input.{pages_of}
@@ -16,6 +16,7 @@ use Rattle.salvage_core.specs.declared.recovers.Summary.{Summary}
 use Rattle.salvage_core.specs.Outcome.{Ends, Outputs}
 use Rattle.salvage_cli.specs.Recovery.{Turns, answer_of, options_of, outputs_of}
 use Rattle.salvage_cli.specs.Run.{GivesWanted}
+use Rattle.salvage_cli.proofs.Trying.{never_large}
 use Rattle.salvage_cli.proofs.Outcomes.{refused}
 use Rattle.salvage_cli.specs.Wanted.{file_by, listing_of, refused_by, wanted, wanted_by}
 use Rattle.salvage_cli.specs.declared.faults.Fault.{Fault}
@@ -45,6 +46,7 @@ complete_told F G command None old new answer h f g = tt
 complete_told F G None (Some all) old new answer h f g = λ ok no_f no_g. absurd cc
 complete_told F G (Some (Lists listing file)) (Some all) old new answer h f g = complete_of F G (wanted listing file all) old new answer h f g
 complete_told F G (Some (Recovers r)) (Some all) old new answer h f g = tt
+complete_told F G (Some (Tries n)) (Some all) old new answer h f g = tt
 
 -- no mode refuses a length
 not_by_mode : (refuses : Bool) (text : List ℕ) (len : ℕ) → (if refuses then Err Utf16 else Ok text) ≡ Err (TooLarge len) → ⊥
@@ -115,6 +117,7 @@ pub over_told : (command : Option Asked) (told : Option (List ℕ)) (turns : Tur
     → IfSome told (λ all. status_of answer ≡ 5 → 2 ^ 28 < length all)
 over_told command None turns old new answer h ended = tt
 over_told None (Some all) turns old new answer h ended = λ e. elim (refused answer h) [ inl two ↦ absurd (omega arith) | inr eleven ↦ absurd (omega arith) ]
+over_told (Some (Tries n)) (Some all) turns old new answer h ended = λ e. absurd (never_large n turns.report answer ended e)
 over_told (Some (Lists listing file)) (Some all) turns old new answer h ended =
     λ e. let large = large_of (wanted listing file all) old new answer h e in over listing file all large.0 large.1
 over_told (Some (Recovers r)) (Some all) turns old new answer h ended =
@@ -144,6 +147,7 @@ no_pages_told command None old new answer h = tt
 no_pages_told None (Some all) old new answer h = λ e. elim (refused answer h) [ inl two ↦ absurd (omega arith) | inr eleven ↦ absurd (omega arith) ]
 no_pages_told (Some (Lists listing file)) (Some all) old new answer h = no_pages_of (wanted listing file all) old new answer h
 no_pages_told (Some (Recovers r)) (Some all) old new answer h = tt
+no_pages_told (Some (Tries n)) (Some all) old new answer h = tt
 
 utf16_of : {A : Type 0} (want : Result (List ℕ) Fault) (old new : Option (List ℕ)) (answer : Result A Fault) → GivesWanted want old new answer
     → status_of answer ≡ 12 → IsUtf16 want
@@ -168,3 +172,4 @@ utf16_told command None old new answer h = tt
 utf16_told None (Some all) old new answer h = λ e. elim (refused answer h) [ inl two ↦ absurd (omega arith) | inr eleven ↦ absurd (omega arith) ]
 utf16_told (Some (Lists listing file)) (Some all) old new answer h = utf16_of (wanted listing file all) old new answer h
 utf16_told (Some (Recovers r)) (Some all) old new answer h = tt
+utf16_told (Some (Tries n)) (Some all) old new answer h = tt

@@ -4,3 +4,4 @@ pub mod Lists
 pub mod Options
 pub mod Outcomes
 pub mod SchemaLines
+pub mod Trying

@@ -2,7 +2,7 @@
 use Rattle.std.proofs.Common.{◌≡◌, ◌⊎◌, ℕ, List, [], Option, Some, None, Result, Ok, Err, inl, inr, refl, sym, subst, length, ap, arith}
 use Rattle.std.specs.Prelude.{IfSome}
 use Rattle.std.proofs.Math.Seq.{take-length}
-use Rattle.command_line.specs.Parts.{Asked, Lists, Recovers}
+use Rattle.command_line.specs.Parts.{Asked, Lists, Recovers, Tries}
 use Rattle.page_access.specs.Outside.{Gains, GainsPrefix}
 use Rattle.page_access.proofs.Gains.{Gains-nothing}
 use Rattle.salvage_cli.specs.Answers.{status_of}
@@ -63,6 +63,7 @@ front_told command None old new answer h left = tt
 front_told None (Some all) old new answer h left = subst (λ (n : Option (List ℕ)). GainsPrefix old n []) (sym (left tt)) (0, Gains-nothing old)
 front_told (Some (Lists listing file)) (Some all) old new answer h left = front_of _ old new answer h left
 front_told (Some (Recovers r)) (Some all) old new answer h left = tt
+front_told (Some (Tries n)) (Some all) old new answer h left = tt
 
 -- ---- what the listing and the status say
 
@@ -90,6 +91,7 @@ listed_told command None old new answer h e = tt
 listed_told None (Some all) old new answer h e = elim (refused answer h) [ inl two ↦ absurd (omega arith) | inr eleven ↦ absurd (omega arith) ]
 listed_told (Some (Lists listing file)) (Some all) old new answer h e = listed_of (wanted listing file all) old new answer h e
 listed_told (Some (Recovers r)) (Some all) old new answer h e = tt
+listed_told (Some (Tries n)) (Some all) old new answer h e = tt
 
 -- a status is the one of what is wanted, or that of a fault
 status_by : {A : Type 0} (want : Result (List ℕ) Fault) (old new : Option (List ℕ)) (answer : Result A Fault) → GivesWanted want old new answer
@@ -119,3 +121,4 @@ status_told command None old new answer h = tt
 status_told None (Some all) old new answer h = none_status answer h
 status_told (Some (Lists listing file)) (Some all) old new answer h = status_by (wanted listing file all) old new answer h
 status_told (Some (Recovers r)) (Some all) old new answer h = tt
+status_told (Some (Tries n)) (Some all) old new answer h = tt

@@ -9,6 +9,8 @@ use Rattle.input_pages.specs.declared.faults.InputFault.{InputFault as InputFaul
 use Rattle.input_pages.specs.declared.faults.InputFault.TheVariants as inputs
 use Rattle.salvage_core.specs.declared.faults.Fault.{Fault as CoreFault}
 use Rattle.salvage_core.specs.declared.faults.Fault.TheVariants as core
+use Rattle.salvage_trial.specs.declared.faults.TrialFault.{TrialFault}
+use Rattle.salvage_trial.specs.declared.faults.TrialFault.TheVariants as trials
 use Rattle.salvage_cli.specs.declared.faults.Fault.{Fault}
 use Rattle.salvage_cli.specs.declared.faults.Fault.TheVariants.{Usage, InputFault, TooLarge, NoPageSize, NoWholePage, Utf16, OutputTooLarge, OutputFault, ScriptFault, ReportFault, Memory}
 
@@ -43,6 +45,11 @@ abbrev pub of_list : ListFault → Fault
 of_list list.Source = InputFault
 of_list list.Sink = ReportFault
 of_list list.Memory = Memory
+
+-- the refusal where a trial is not done
+abbrev pub of_trial : TrialFault → Fault
+of_trial trials.Sink = ReportFault
+of_trial trials.Memory = Memory
 
 -- the status of a refusal
 abbrev pub fault_status : Fault → ℕ

@@ -3,4 +3,5 @@ pub mod Outcome
 pub mod Recovery
 pub mod Run
 pub mod Schema
+pub mod Tried
 pub mod Wanted

@@ -1,10 +1,11 @@
 -- What a run of the program leaves, by its status (docs/TEXTS.md, "Statuses").
-use Rattle.std.specs.Prelude.{◌≡◌, ◌≢◌, ◌⊎◌, ℕ, Bool, false, List, Option, Some, None, Result, Ok, Err, IfSome, IsOk, ⊤}
+use Rattle.std.specs.Prelude.{◌≡◌, ◌≢◌, ◌⊎◌, ℕ, Bool, false, List, Option, Some, None, Result, Ok, Err, IfSome, IsErrOf, IsOk, ⊤}
 use Rattle.page_access.specs.Outside.{Gains, GainsPrefix, Rose}
-use Rattle.command_line.specs.Parts.{Asked, Lists, Recovers, Word}
+use Rattle.command_line.specs.Parts.{Asked, Lists, Recovers, Tries, Word}
 use Rattle.salvage_cli.specs.Answers.{fault_line, status_of}
 use Rattle.salvage_cli.specs.Recovery.{EndsAs, IsBeforeOutput, IsBeforeReport, IsBeforeScript, Turns}
 use Rattle.salvage_cli.specs.Run.{GivesWanted, HasNumbers, IsEarly, IsOfListing}
+use Rattle.salvage_cli.specs.Tried.{EndsTrial, IsOfTrial}
 use Rattle.salvage_cli.specs.Wanted.{wanted}
 use Rattle.salvage_cli.specs.declared.faults.Fault.{Fault}
 use Rattle.salvage_cli.specs.declared.faults.Fault.TheVariants.{Usage, NoPageSize, NoWholePage, Utf16, Memory}
@@ -14,6 +15,7 @@ abbrev pub ForListing : Option Asked → List ℕ → (Result (List ℕ) Fault �
 ForListing None bytes P = P (Err Usage)
 ForListing (Some (Lists listing file)) bytes P = P (wanted listing file bytes)
 ForListing (Some (Recovers r)) bytes P = ⊤
+ForListing (Some (Tries n)) bytes P = ⊤
 
 -- an answer to words that are no command
 abbrev pub IsNoCommand : {A : Type 0} → Result A Fault → Type 0
@@ -28,27 +30,26 @@ GivesCommand None bytes old new answer = IsNoCommand answer
 GivesCommand (Some (Lists listing file)) bytes old new answer =
     GivesWanted (wanted listing file bytes) old new answer
 GivesCommand (Some (Recovers r)) bytes old new answer = ⊤
+GivesCommand (Some (Tries n)) bytes old new answer = ⊤
 
--- the source is attached to the input that the words name
+-- the source is attached to the input that the words name, if they name one
 abbrev pub IsAttached : Option Asked → Option Word → Type 0
 IsAttached None name = ⊥
 IsAttached (Some (Lists listing file)) name = name ≡ Some file.name
 IsAttached (Some (Recovers r)) name = name ≡ Some r.input.name
+IsAttached (Some (Tries n)) name = ⊤
 
--- the words ask for no recovery
-abbrev pub IsNoRecovery : Option Asked → Type 0
-IsNoRecovery (Some (Recovers r)) = ⊥
-IsNoRecovery command = ⊤
-
--- an answer that a listing may have, where the words ask for one
+-- an answer that a listing or a trial may have, where the words ask for one
 abbrev pub IsOwn : {A : Type 0} → Option Asked → Result A Fault → Type 0
 IsOwn None answer = IsNoCommand answer
 IsOwn (Some (Lists listing file)) answer = IsOfListing answer
 IsOwn (Some (Recovers r)) answer = ⊤
+IsOwn (Some (Tries n)) answer = IsOfTrial answer
 
--- the recovery that the words ask for ends with this answer
+-- the recovery or the trial that the words ask for ends with this answer
 abbrev pub HasEnd : Option Asked → Option (List ℕ) → Turns → Result (Unit {0}) Fault → Type 0
 HasEnd (Some (Recovers r)) told turns answer = EndsAs r told turns answer
+HasEnd (Some (Tries n)) told turns answer = EndsTrial n turns.report answer
 HasEnd command told turns answer = ⊤
 
 -- the report gained the listing that the words ask for
@@ -110,9 +111,11 @@ abbrev pub LeavesReport : {A : Type 0} → Option Asked → Result A Fault → T
 LeavesReport None answer = ⊤
 LeavesReport (Some (Lists listing file)) answer = IsEarly answer
 LeavesReport (Some (Recovers r)) answer = IsBeforeReport answer
+LeavesReport (Some (Tries n)) answer = IsErrOf answer Memory
 
 abbrev pub KeepsReport : Option Asked → ℕ → Type 0
 KeepsReport (Some (Recovers r)) status = (status ≢ 0) × (status ≢ 9)
+KeepsReport (Some (Tries n)) status = status ≡ 11
 KeepsReport command status = IsEarlyStatus status
 
 -- no pages are found: nothing tells their size, or it is over the length

@@ -1,12 +1,14 @@
 -- What a recovery leaves (docs/TEXTS.md, "Statuses").
-use Rattle.std.specs.Prelude.{◌≡◌, ◌⊎◌, ◌^◌, ℕ, List, codes, Option, Some, unwrap_or, Result, Ok, Err, IfSome, ⊤}
+use Rattle.std.specs.Prelude.{◌≡◌, ◌^◌, ◌+◌, ◌≤◌, ℕ, List, codes, Option, Some, unwrap_or, Result, Ok, Err, IfSome, ⊤}
 use Rattle.command_line.specs.Parts.{Asked, RecoveryAsked, Recovers}
 use Rattle.salvage_core.specs.declared.faults.Fault.{Fault as CoreFault}
-use Rattle.salvage_core.specs.declared.faults.Fault.TheVariants as core
 use Rattle.salvage_core.specs.declared.options.Options.{Options}
 use Rattle.salvage_core.specs.declared.recovers.Summary.{Summary}
+use Rattle.salvage_core.specs.Back.{ArePlain}
 use Rattle.salvage_core.specs.Outcome.{Ends, IsDone, IsOver, Outputs, SinkTurn, StopsAtDatabase, StopsAtReport, StopsAtScript}
 use Rattle.salvage_core.specs.Plan.{IsRefused}
+use Rattle.salvage_core.specs.Reads.{most_reads}
+use Rattle.salvage_core.specs.Recoverable.{IsRecoverable, IsWhole}
 use Rattle.salvage_cli.specs.Answers.{fault_status, of_core}
 use Rattle.salvage_cli.specs.declared.faults.Fault.{Fault}
 use Rattle.salvage_cli.specs.declared.faults.Fault.TheVariants.{OutputFault, ScriptFault, ReportFault}
@@ -53,6 +55,12 @@ pub record EndsAs (r : RecoveryAsked) (told : Option (List ℕ)) (turns : Turns)
   pub end : Result Summary CoreFault
   pub answer_is : answer ≡ answer_of end
   pub ends : Ends (options_of r) told (outputs_of r turns) end
+
+-- a recovery that is asked for reads its input so often at most, whatever it answers
+abbrev pub HasFewReads : Option Asked → Option (List ℕ) → ℕ → ℕ → Type 0
+HasFewReads (Some (Recovers r)) told before now =
+    IfSome told (λ all. now ≤ before + most_reads (options_of r) all)
+HasFewReads command told before now = ⊤
 
 -- the database was not begun: all is refused that is not done, but for the faults of the three sinks
 abbrev pub IsBeforeOutput : {A : Type 0} → Result A Fault → Type 0
@@ -106,13 +114,13 @@ IsBarred (Some (Recovers r)) told status = IfSome told
     × IsRefused (options_of r) all fault))
 IsBarred command told status = ⊤
 
--- nothing but a failing source or want of memory stands in the way of a recovery of these bytes
-pub record IsRecoverable (r : RecoveryAsked) (all : List ℕ) : Type 0 where
-  pub read : (fault : CoreFault) → IsRefused (options_of r) all fault
-      → (fault ≡ core.InputFault) ⊎ (fault ≡ core.Memory)
-  pub small : (load : ℕ) → IsOver (options_of r) (Some all) load → ⊥
-
--- the same of a command that is a recovery
+-- a recovery is asked for, and nothing but a failing source or want of memory stands in its way
 abbrev pub IsRecoverableBy : Option Asked → List ℕ → Type 0
-IsRecoverableBy (Some (Recovers r)) all = IsRecoverable r all
+IsRecoverableBy (Some (Recovers r)) all = IsRecoverable (options_of r) all
 IsRecoverableBy command all = ⊥
+
+-- a recovery is asked for, without a page size, reserved bytes or a word on the freelist, and the bytes are
+-- well-formed and in scope
+abbrev pub IsWholeBy : Option Asked → List ℕ → Type 0
+IsWholeBy (Some (Recovers r)) all = ArePlain (options_of r) × IsWhole all
+IsWholeBy command all = ⊥

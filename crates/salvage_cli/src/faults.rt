@@ -1,10 +1,11 @@
 //! Why the program does not do what was asked.
 ghost use Rattle.std.specs.Prelude.{◌≡◌};
-ghost use Rattle.salvage_cli.specs.Answers.{of_core, of_input, of_list, of_words};
+ghost use Rattle.salvage_cli.specs.Answers.{of_core, of_input, of_list, of_trial, of_words};
 
 use command_line::WordsFault;
 use dbdata_list::ListFault;
 use input_pages::InputFault;
+use salvage_trial::TrialFault;
 
 /// Why the program does not do what was asked (docs/TEXTS.md, "Statuses").
 #[derive(Clone, Copy, Debug, PartialEq, Eq)]
@@ -77,6 +78,17 @@ impl From<ListFault> for Fault {
             ListFault::Source => Fault::InputFault,
             ListFault::Sink => Fault::ReportFault,
             ListFault::Memory => Fault::Memory,
+        }
+    }
+}
+
+impl From<TrialFault> for Fault {
+    ghost from_gives = { λ fault e. e ≡ of_trial fault };
+
+    fn from(fault: TrialFault) -> Self {
+        match fault {
+            TrialFault::Sink => Fault::ReportFault,
+            TrialFault::Memory => Fault::Memory,
         }
     }
 }

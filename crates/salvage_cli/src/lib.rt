@@ -8,16 +8,8 @@ mod listings;
 mod recoveries;
 mod runs;
 mod schemas;
+mod trials;
 
 pub use adapters::{FileSink, FileSource, StreamSink};
 pub use faults::Fault;
 pub use runs::run;
-
-#[cfg(test)]
-mod lost_tests;
-#[cfg(test)]
-mod order_tests;
-#[cfg(test)]
-mod recovery_tests;
-#[cfg(test)]
-mod tests;

@@ -1,9 +1,11 @@
 //! A recovery, done: a new database, a new script and a report are made of the input.
-ghost use Rattle.std.specs.Prelude.{◌≡◌, Some, true, IsErrOf, OnOk};
+ghost use Rattle.std.specs.Prelude.{◌≡◌, ◌≤◌, ◌+◌, Some, true, IfSome, IsErrOf, OnErr, OnOk};
 ghost use Rattle.page_access.specs.Outside.{HasCauseOf};
 ghost use Rattle.command_line.specs.Command.{recovery_view};
 ghost use Rattle.salvage_core.specs.Outcome.{turn_of};
-ghost use Rattle.salvage_cli.specs.Recovery.{EndsAs, IsBeforeOutput, IsBeforeReport, IsBeforeScript};
+ghost use Rattle.salvage_core.specs.Reads.{most_reads};
+ghost use Rattle.salvage_cli.specs.Outcome.{StaysUnfinished};
+ghost use Rattle.salvage_cli.specs.Recovery.{EndsAs, IsBeforeOutput, IsBeforeReport, IsBeforeScript, options_of};
 ghost use Rattle.salvage_cli.specs.Run.{HasNumbers};
 
 use crate::faults::Fault;
@@ -51,6 +53,10 @@ pub(crate) fn recover<S: Source, O: Sink, T: Sink, R: Sink>(
     ensures script_kept { IsBeforeScript result → script.new ≡ script.old }
     ensures report_kept { IsBeforeReport result → report.new ≡ report.old }
     ensures report_name { R.created report.new ≡ R.created report.old }
+    ensures unfinished { OnErr result (StaysUnfinished (R.finished report.old)
+        (R.finished report.new)) }
+    ensures reads { IfSome (S.bytes src.old) (λ all. S.reads src.new
+        ≤ S.reads src.old + most_reads (options_of (recovery_view recovery.now)) all) }
 {
     let lost = recovery.lost.unwrap_or(LOST_AND_FOUND);
     let Ok(lost) = Bytes::copy_of(alloc, lost.as_bytes()) else {

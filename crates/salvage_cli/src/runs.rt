@@ -5,20 +5,22 @@ ghost use Rattle.command_line.specs.Command.{command_of};
 ghost use Rattle.salvage_core.specs.Outcome.{turn_of};
 ghost use Rattle.salvage_cli.specs.Answers.{status_of};
 ghost use Rattle.salvage_cli.specs.Run.{HasNumbers, text_of};
-ghost use Rattle.salvage_cli.specs.Recovery.{IsBarred, IsRecoverableBy, IsRecovered, IsTooMuch, StopsAtLines, StopsAtOutput, StopsAtTexts};
-ghost use Rattle.salvage_cli.specs.Outcome.{Answered, ForListing, GivesCommand, HasEnd, HasNoPages, IsAttached, IsEarlyStatus, IsListed, IsNoCommand, IsNoRecovery, IsOwn, IsStatusOf, IsUtf16, KeepsOutput, KeepsReport, KeepsScript, LeavesOutput, LeavesReport, LeavesScript, Says, StaysUnfinished};
+ghost use Rattle.salvage_cli.specs.Recovery.{HasFewReads, IsBarred, IsRecoverableBy, IsRecovered, IsTooMuch, IsWholeBy, StopsAtLines, StopsAtOutput, StopsAtTexts};
+ghost use Rattle.salvage_cli.specs.Tried.{IsTrialAsked, IsTrialStatus, IsTried, StopsAtTrial};
+ghost use Rattle.salvage_cli.specs.Outcome.{Answered, ForListing, GivesCommand, HasEnd, HasNoPages, IsAttached, IsEarlyStatus, IsListed, IsNoCommand, IsOwn, IsStatusOf, IsUtf16, KeepsOutput, KeepsReport, KeepsScript, LeavesOutput, LeavesReport, LeavesScript, Says, StaysUnfinished};
 
 use crate::faults::Fault;
 use crate::lines::put_fault;
 use crate::listings::list;
 use crate::recoveries::recover;
+use crate::trials::try_rows;
 use command_line::{Request, read_words};
 use page_access::{Sink, Source};
 use std::alloc::Global;
 
 /// Does what the words ask for, and gives the status of docs/TEXTS.md, "Statuses". A listing goes to
 /// `report`; a recovery makes a new database in `out` and a new script in `script`, and its report goes to
-/// `report`; the line of a refusal goes to `errors`.
+/// `report`; the two lines of a trial go to `report`; the line of a refusal goes to `errors`.
 pub fn run<S: Source, O: Sink, T: Sink, R: Sink, E: Sink>(
     alloc: Global,
     words: &[String],
@@ -89,6 +91,23 @@ pub fn run<S: Source, O: Sink, T: Sink, R: Sink, E: Sink>(
         → (Rose (T.faults script.old) (T.faults script.new) → ⊥)
         → (Rose (R.faults report.old) (R.faults report.new) → ⊥)
         → (result ≡ 0) ⊎ (result ≡ 11)) }
+    ensures well_formed { IfSome (S.bytes src.old) (λ all.
+        IsWholeBy (command_of (map string_bytes words.now)) all
+        → (Rose (S.faults src.old) (S.faults src.new) → ⊥)
+        → (Rose (O.faults out.old) (O.faults out.new) → ⊥)
+        → (Rose (T.faults script.old) (T.faults script.new) → ⊥)
+        → (Rose (R.faults report.old) (R.faults report.new) → ⊥)
+        → (result ≡ 0) ⊎ (result ≡ 11)) }
+
+    // a trial: both lines, or a front of them
+    ensures tried { result ≡ 0 → IsTried (command_of (map string_bytes words.now))
+        (turn_of R.bytes R.created R.finished R.faults report.old report.new) }
+    ensures trial_cut { result ≡ 9 → StopsAtTrial (command_of (map string_bytes words.now))
+        (turn_of R.bytes R.created R.finished R.faults report.old report.new) }
+    ensures trial_status { IsTrialAsked (command_of (map string_bytes words.now))
+        → IsTrialStatus result }
+    ensures trial_source { IsTrialAsked (command_of (map string_bytes words.now))
+        → src.new ≡ src.old }
 
     // faults of the outside, and what is said
     ensures too_large { IfSome (S.bytes src.old) (λ all. result ≡ 5 → 2 ^ 28 < length all) }
@@ -117,13 +136,15 @@ pub fn run<S: Source, O: Sink, T: Sink, R: Sink, E: Sink>(
         ForListing (command_of (map string_bytes words.now)) all
         (λ wanted. GainsPrefix (R.bytes report.old) (R.bytes report.new) (text_of wanted))) }
     ensures report_name { R.created report.new ≡ R.created report.old }
-    ensures unfinished { IsNoRecovery (command_of (map string_bytes words.now)) → (result ≡ 0) ⊎
+    ensures unfinished { (result ≡ 0) ⊎
         StaysUnfinished (R.finished report.old) (R.finished report.new) }
     ensures out_kept { KeepsOutput (command_of (map string_bytes words.now)) result → out.new ≡ out.old }
     ensures script_kept { KeepsScript (command_of (map string_bytes words.now)) result
         → script.new ≡ script.old }
     ensures errors_kept { result ≡ 0 → errors.new ≡ errors.old }
     ensures errors_open { KeepsSink E.created E.finished E.faults errors.old errors.new }
+    ensures reads { HasFewReads (command_of (map string_bytes words.now)) (S.bytes src.old)
+        (S.reads src.old) (S.reads src.new) }
 {
     let answer = answer(alloc, words, src, out, script, report);
     tell(errors, &answer);
@@ -154,6 +175,8 @@ fn answer<S: Source, O: Sink, T: Sink, R: Sink>(
         (S.attached src.new)) }
     ensures finished { OnOk result (R.finished report.new ≡ true) }
     ensures unread { IsErrOf result Fault.Usage → src.new ≡ src.old }
+    ensures trial_source { IsTrialAsked (command_of (map string_bytes words.now))
+        → src.new ≡ src.old }
     ensures numbers { HasNumbers result }
     ensures source { HasCauseOf Fault.InputFault (S.faults src.old) (S.faults src.new) result }
     ensures output { HasCauseOf Fault.OutputFault (O.faults out.old) (O.faults out.new) result }
@@ -166,12 +189,15 @@ fn answer<S: Source, O: Sink, T: Sink, R: Sink>(
     ensures report_kept { LeavesReport (command_of (map string_bytes words.now)) result
         → report.new ≡ report.old }
     ensures report_name { R.created report.new ≡ R.created report.old }
-    ensures unfinished { IsNoRecovery (command_of (map string_bytes words.now)) → OnErr result
-        (StaysUnfinished (R.finished report.old) (R.finished report.new)) }
+    ensures unfinished { OnErr result (StaysUnfinished (R.finished report.old)
+        (R.finished report.new)) }
+    ensures reads { HasFewReads (command_of (map string_bytes words.now)) (S.bytes src.old)
+        (S.reads src.old) (S.reads src.new) }
 {
     match read_words(alloc, words)? {
         Request::List(listing, input) => list(alloc, listing, &input, src, report),
         Request::Recover(recovery) => recover(alloc, &recovery, src, out, script, report),
+        Request::Try(asked) => try_rows(alloc, &asked, report),
     }
 }
 

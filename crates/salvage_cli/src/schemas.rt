@@ -1,9 +1,10 @@
 //! The listing of the schema.
-ghost use Rattle.std.specs.Prelude.{◌≡◌, map, IfOk, IfSome};
+ghost use Rattle.std.specs.Prelude.{◌≡◌, ◌+◌, ◌*◌, map, IfOk, IfSome};
 ghost use Rattle.std.specs.List.{flat_map};
 ghost use Rattle.page_access.specs.Files.{file_of};
 ghost use Rattle.page_access.specs.Outside.{HasCauseOf, KeepsSink, KeepsSource, Writes, WritesOf};
 ghost use Rattle.page_walk.specs.Cells.{row_of};
+ghost use Rattle.dbdata_list.specs.Reads.{FewReads};
 ghost use Rattle.salvage_cli.specs.Schema.{bad_line, lines_text, row_line, schema_text};
 
 use dbdata_list::ListFault;
@@ -31,6 +32,9 @@ pub(crate) fn list_schema<S: Source, R: Sink>(
     ensures sink { HasCauseOf ListFault.Sink (R.faults to.old) (R.faults to.new) result }
     ensures kept { KeepsSource S.bytes S.attached S.faults S.reads src.old src.new }
     ensures kept_sink { KeepsSink R.created R.finished R.faults to.old to.new }
+    // each page is read once, and those of the schema twice more
+    ensures reads { FewReads (S.bytes src.old) geo.now
+        (S.reads src.old) (S.reads src.new) (3 * geo.now.pages + 1) }
 {
     let schema = schema_of(alloc, src, geo)?;
     put_schema(schema, to)?;
@@ -44,6 +48,8 @@ fn schema_of<S: Source>(alloc: Global, src: &mut S, geo: &Geometry) -> Result<Ra
         lines_text s.rows.items (map row_of s.bad.items) ≡ schema_text (file_of all geo.now))) }
     ensures source { HasCauseOf ReadFault.Source (S.faults src.old) (S.faults src.new) result }
     ensures kept { KeepsSource S.bytes S.attached S.faults S.reads src.old src.new }
+    ensures reads { FewReads (S.bytes src.old) geo.now
+        (S.reads src.old) (S.reads src.new) (3 * geo.now.pages + 1) }
 {
     let mut cache = PageCache::new(alloc, geo, CACHED_PAGES)?;
     let kinds = survey(alloc, src, geo, &mut cache)?;

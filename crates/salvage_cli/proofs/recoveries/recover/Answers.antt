@@ -1,10 +1,12 @@
-use Rattle.std.proofs.Common.{◌≡◌, ◌^◌, ◌∙◌, ℕ, List, Ok, Err, ap, arith, refl, subst, sym}
+use Rattle.std.proofs.Common.{◌≡◌, ◌^◌, ◌∙◌, ℕ, List, Some, Ok, Err, ap, arith, refl, subst, sym}
 use Rattle.command_line.specs.Command.{recovery_view}
+use Rattle.command_line.specs.Parts.{Recovers}
 use Rattle.lost_found.specs.Names.{CanBeBase}
 use Rattle.salvage_core.specs.Outcome.{Ends, turn_of}
 use Rattle.salvage_core.specs.declared.faults.Fault.TheVariants as core
 use Rattle.salvage_core.specs.declared.options.Options.{Options}
 use Rattle.salvage_cli.specs.Recovery.{Turns, answer_of, options_of, outputs_of}
+use Rattle.salvage_cli.proofs.Ended.{open_end, unread_few}
 use Rattle.salvage_cli.proofs.Options.{can_be_base, chosen, memory_ends}
 use Rattle.salvage_cli.proofs.recoveries.recover.Goals as goal
 
@@ -70,3 +72,17 @@ returns-clause-ends g c =
           (c.in-Ok.ensures ∙ (c.as_bytes.ensures.value ∙ (ap (λ w. w.now) c.unwrap_or-lost.ensures ∙ chosen r.lost _ refl)))
           c.in-Err.ensures.ends;
     }
+
+pub returns-in_default-clause-reads : goal.returns-in_default-clause-reads
+returns-in_default-clause-reads g c =
+    unread_few (Some (Recovers (recovery_view c.args.recovery.now))) (g.S.Source.bytes c.args.src.now) (g.S.Source.reads c.args.src.now)
+
+pub returns-clause-unfinished : goal.returns-clause-unfinished
+returns-clause-unfinished g c =
+    let r = c.args.recovery.now in
+    let out = turn_of g.O.Sink.bytes g.O.Sink.created g.O.Sink.finished g.O.Sink.faults c.args.out.now c.recover-end.new.out in
+    let script = turn_of g.T.Sink.bytes g.T.Sink.created g.T.Sink.finished g.T.Sink.faults c.args.script.now c.recover-end.new.script in
+    let report = turn_of g.R.Sink.bytes g.R.Sink.created g.R.Sink.finished g.R.Sink.faults c.args.report.now c.recover-end.new.report in
+    open_end _ (g.S.Source.bytes c.args.src.now)
+    (outputs_of (recovery_view r) (record { out = out; script = script; report = report })) c.in-Err.fault
+    c.in-Err.ensures.ends (λ b. ap g.R.Sink.finished (c.in-Err.ensures.report_kept b))

@@ -1,7 +1,8 @@
 use Rattle.std.proofs.Common.{◌≡◌, ap, subst, sym, ◌⊎◌, ℕ}
 use Rattle.salvage_cli.proofs.Causes.{complete_told, no_pages_told, over_told, utf16_told}
-use Rattle.salvage_cli.proofs.Ended.{barred, recoverable_told, output_cut, output_left, recovered, report_cut, report_left, script_cut, script_left, too_much}
+use Rattle.salvage_cli.proofs.Ended.{barred, recoverable_told, whole_told, output_cut, output_left, recovered, report_cut, report_left, script_cut, script_left, too_much}
 use Rattle.salvage_cli.proofs.Outcomes.{front_told, listed_told, refused, status_told}
+use Rattle.salvage_cli.proofs.Trying.{asked_status, trial_cut, tried}
 use Rattle.salvage_cli.proofs.runs.run.Goals as goal
 
 pub returns-clause-no_command : goal.returns-clause-no_command
@@ -60,6 +61,20 @@ returns-clause-barred g c = rw c.status.ensures (barred _ _ _ c.answer-answer.re
 pub returns-clause-recoverable : goal.returns-clause-recoverable
 returns-clause-recoverable g c = rw c.status.ensures (recoverable_told _ _ _ _ _ _ _ c.answer-answer.result c.answer-answer.ensures.ended c.answer-answer.ensures.source.failed
     c.answer-answer.ensures.output.failed c.answer-answer.ensures.script.failed c.answer-answer.ensures.sink.failed)
+
+pub returns-clause-well_formed : goal.returns-clause-well_formed
+returns-clause-well_formed g c = rw c.status.ensures (whole_told _ _ _ _ _ _ _
+    (recoverable_told _ _ _ _ _ _ _ c.answer-answer.result c.answer-answer.ensures.ended c.answer-answer.ensures.source.failed
+    c.answer-answer.ensures.output.failed c.answer-answer.ensures.script.failed c.answer-answer.ensures.sink.failed))
+
+pub returns-clause-tried : goal.returns-clause-tried
+returns-clause-tried g c = rw c.status.ensures (tried _ _ _ c.answer-answer.result c.answer-answer.ensures.ended)
+
+pub returns-clause-trial_cut : goal.returns-clause-trial_cut
+returns-clause-trial_cut g c = rw c.status.ensures (trial_cut _ _ _ c.answer-answer.result c.answer-answer.ensures.ended)
+
+pub returns-clause-trial_status : goal.returns-clause-trial_status
+returns-clause-trial_status g c = rw c.status.ensures (asked_status _ c.answer-answer.result c.answer-answer.ensures.own)
 
 pub returns-clause-out_kept : goal.returns-clause-out_kept
 returns-clause-out_kept g c = rw c.status.ensures (λ h. c.answer-answer.ensures.out_kept (output_left _ c.answer-answer.result h))

@@ -62,6 +62,38 @@ def many_tables(path, size, luck):
     db.close()
 
 
+def long_row(path, size, luck):
+    """A row of a million bytes."""
+    db = sqlite3.connect(path)
+    db.execute('PRAGMA page_size = %d' % size)
+    db.execute('CREATE TABLE letter(id INTEGER PRIMARY KEY, body BLOB)')
+    db.execute('INSERT INTO letter VALUES (1, ?)', [luck.randbytes(1000000)])
+    db.execute('INSERT INTO letter VALUES (2, ?)', [b'short'])
+    db.commit()
+    db.close()
+
+
+def of_columns(path, size, count):
+    """A table of so many columns, with two rows."""
+    db = sqlite3.connect(path)
+    db.execute('PRAGMA page_size = %d' % size)
+    db.execute('CREATE TABLE wide(%s)' % ', '.join('c%d' % i for i in range(count)))
+    db.execute('INSERT INTO wide VALUES (%s)' % ','.join('?' * count), range(count))
+    db.execute('INSERT INTO wide(c0, c%d) VALUES (1, ?)' % (count - 1), ['last'])
+    db.commit()
+    db.close()
+
+
+def widest(path, size, luck):
+    """A table of as many columns as a table that is built can have."""
+    of_columns(path, size, 1996)
+
+
+def too_wide(path, size, luck):
+    """A table of as many columns as SQLite makes, which is not built."""
+    of_columns(path, size, 2000)
+
+
 def varied(path, size, luck):
     """A small schema of tables, columns and keys drawn by lot, with rows that SQLite lets in."""
     db = sqlite3.connect(path)

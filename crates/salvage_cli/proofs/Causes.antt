@@ -18,7 +18,7 @@ use Rattle.salvage_cli.specs.Recovery.{Turns, answer_of, options_of, outputs_of}
 use Rattle.salvage_cli.specs.Run.{GivesWanted}
 use Rattle.salvage_cli.proofs.Trying.{never_large}
 use Rattle.salvage_cli.proofs.Outcomes.{refused}
-use Rattle.salvage_cli.specs.Wanted.{file_by, listing_of, refused_by, wanted, wanted_by}
+use Rattle.salvage_cli.specs.Wanted.{answer_on_pages, file_cut, is_refused, listing_answer, listing_text}
 use Rattle.salvage_cli.specs.declared.faults.Fault.{Fault}
 use Rattle.salvage_cli.specs.declared.faults.Fault.TheVariants.{Usage, InputFault, TooLarge, NoPageSize, NoWholePage, Utf16, OutputTooLarge, OutputFault, ScriptFault, ReportFault, Memory}
 
@@ -44,7 +44,7 @@ pub complete_told : {A : Type 0} (F G : Type 0) (command : Option Asked) (told o
     → IfSome told (λ all. ForListing command all (λ want. IsOk want → (F → ⊥) → (G → ⊥) → (status_of answer ≡ 0) ⊎ (status_of answer ≡ 11)))
 complete_told F G command None old new answer h f g = tt
 complete_told F G None (Some all) old new answer h f g = λ ok no_f no_g. absurd cc
-complete_told F G (Some (Lists listing file)) (Some all) old new answer h f g = complete_of F G (wanted listing file all) old new answer h f g
+complete_told F G (Some (Lists listing file)) (Some all) old new answer h f g = complete_of F G (listing_answer listing file all) old new answer h f g
 complete_told F G (Some (Recovers r)) (Some all) old new answer h f g = tt
 complete_told F G (Some (Tries n)) (Some all) old new answer h f g = tt
 
@@ -61,16 +61,16 @@ large_input inputs.NoPageSize len e = absurd cc
 large_input (inputs.NoWholePage n size) len e = absurd cc
 large_input inputs.Memory len e = absurd cc
 
-large_pages : (listing : Listing) (all : List ℕ) (pages : Result (Option Finding) InputFaults) (len : ℕ) → wanted_by listing all pages ≡ Err (TooLarge len)
+large_pages : (listing : Listing) (all : List ℕ) (pages : Result (Option Finding) InputFaults) (len : ℕ) → answer_on_pages listing all pages ≡ Err (TooLarge len)
     → pages ≡ Err (inputs.TooLarge len)
 large_pages listing all (Ok None) len e = absurd cc
-large_pages listing all (Ok (Some f)) len e = absurd (not_by_mode (refused_by listing f) (listing_of listing (file_by all f)) len e)
+large_pages listing all (Ok (Some f)) len e = absurd (not_by_mode (is_refused listing f) (listing_text listing (file_cut all f)) len e)
 large_pages listing all (Err found) len e =
     let same : of_input found ≡ TooLarge len = cc in
     ap (λ (f : InputFaults). Err f) (large_input found len same)
 
 -- an input that is too large has over 2^28 bytes
-over : (listing : Listing) (file : FileAsked) (all : List ℕ) (len : ℕ) → wanted listing file all ≡ Err (TooLarge len) → 2 ^ 28 < length all
+over : (listing : Listing) (file : FileAsked) (all : List ℕ) (len : ℕ) → listing_answer listing file all ≡ Err (TooLarge len) → 2 ^ 28 < length all
 over listing file all len e =
     over_limit (2 ^ 28) file.page_size file.reserved all len (large_pages listing all (pages_of (2 ^ 28) file.page_size file.reserved all) len e)
 
@@ -119,7 +119,7 @@ over_told command None turns old new answer h ended = tt
 over_told None (Some all) turns old new answer h ended = λ e. elim (refused answer h) [ inl two ↦ absurd (omega arith) | inr eleven ↦ absurd (omega arith) ]
 over_told (Some (Tries n)) (Some all) turns old new answer h ended = λ e. absurd (never_large n turns.report answer ended e)
 over_told (Some (Lists listing file)) (Some all) turns old new answer h ended =
-    λ e. let large = large_of (wanted listing file all) old new answer h e in over listing file all large.0 large.1
+    λ e. let large = large_of (listing_answer listing file all) old new answer h e in over listing file all large.0 large.1
 over_told (Some (Recovers r)) (Some all) turns old new answer h ended =
     λ e. over_end r all (outputs_of r turns) ended.end ended.ends (sym (ap (λ (a : Result (Unit {0}) Fault). status_of a) ended.answer_is) ∙ e)
 
@@ -145,7 +145,7 @@ pub no_pages_told : {A : Type 0} (command : Option Asked) (told old new : Option
     → IfSome told (λ all. ForListing command all (λ want. status_of answer ≡ 4 → HasNoPages want))
 no_pages_told command None old new answer h = tt
 no_pages_told None (Some all) old new answer h = λ e. elim (refused answer h) [ inl two ↦ absurd (omega arith) | inr eleven ↦ absurd (omega arith) ]
-no_pages_told (Some (Lists listing file)) (Some all) old new answer h = no_pages_of (wanted listing file all) old new answer h
+no_pages_told (Some (Lists listing file)) (Some all) old new answer h = no_pages_of (listing_answer listing file all) old new answer h
 no_pages_told (Some (Recovers r)) (Some all) old new answer h = tt
 no_pages_told (Some (Tries n)) (Some all) old new answer h = tt
 
@@ -170,6 +170,6 @@ pub utf16_told : {A : Type 0} (command : Option Asked) (told old new : Option (L
     → IfSome told (λ all. ForListing command all (λ want. status_of answer ≡ 12 → IsUtf16 want))
 utf16_told command None old new answer h = tt
 utf16_told None (Some all) old new answer h = λ e. elim (refused answer h) [ inl two ↦ absurd (omega arith) | inr eleven ↦ absurd (omega arith) ]
-utf16_told (Some (Lists listing file)) (Some all) old new answer h = utf16_of (wanted listing file all) old new answer h
+utf16_told (Some (Lists listing file)) (Some all) old new answer h = utf16_of (listing_answer listing file all) old new answer h
 utf16_told (Some (Recovers r)) (Some all) old new answer h = tt
 utf16_told (Some (Tries n)) (Some all) old new answer h = tt

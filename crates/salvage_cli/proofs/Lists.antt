@@ -9,7 +9,7 @@ use Rattle.page_size.specs.Rule.{Finding, finding}
 use Rattle.input_pages.specs.Input.{FindsPages, pages_of}
 use Rattle.input_pages.specs.declared.faults.InputFault.{InputFault}
 use Rattle.input_pages.specs.declared.inputs.Input.{Input}
-use Rattle.salvage_cli.specs.Wanted.{text_by, wanted, wanted_by}
+use Rattle.salvage_cli.specs.Wanted.{answer_on_pages, listing_answer, text_or_refusal}
 use Rattle.salvage_cli.specs.Run.{EndsWanted, GivesWanted}
 use Rattle.salvage_cli.specs.declared.faults.Fault.{Fault}
 use Rattle.salvage_cli.specs.declared.faults.Fault.TheVariants.{ReportFault}
@@ -35,10 +35,10 @@ finished (Some all) told' old mid new f g text x r same w e is =
 pub found_listed : {A : Type 0} (told told' old new : Option (List ℕ)) (listing : Listing) (file : FileAsked) (pages : Option Input) (input : Input)
     (r : Result A Fault) → told' ≡ told → pages ≡ Some input
     → IfSome told (λ all. FindsPages (Ok pages) (pages_of (2 ^ 28) file.page_size file.reserved all))
-    → IfSome told' (λ all. GivesWanted (text_by listing all (Some (finding input.found))) old new r)
-    → IfSome told (λ all. GivesWanted (wanted listing file all) old new r)
+    → IfSome told' (λ all. GivesWanted (text_or_refusal listing all (finding input.found)) old new r)
+    → IfSome told (λ all. GivesWanted (listing_answer listing file all) old new r)
 found_listed None told' old new listing file pages input r same is pages_are listed = tt
 found_listed (Some all) told' old new listing file pages input r same is pages_are listed =
-    let there = subst (λ (o : Option (List ℕ)). IfSome o (λ b. GivesWanted (text_by listing b (Some (finding input.found))) old new r)) same listed in
+    let there = subst (λ (o : Option (List ℕ)). IfSome o (λ b. GivesWanted (text_or_refusal listing b (finding input.found)) old new r)) same listed in
     let so = pages_are ∙ ap (λ (p : Option Input). Ok (option_map (λ (i : Input). finding i.found) p)) is in
-    subst (λ (p : Result (Option Finding) InputFault). GivesWanted (wanted_by listing all p) old new r) (sym so) there
+    subst (λ (p : Result (Option Finding) InputFault). GivesWanted (answer_on_pages listing all p) old new r) (sym so) there

@@ -7,7 +7,7 @@ use Rattle.page_access.specs.Outside.{Gains, GainsPrefix}
 use Rattle.page_access.proofs.Gains.{Gains-nothing}
 use Rattle.salvage_cli.specs.Answers.{status_of}
 use Rattle.salvage_cli.specs.Outcome.{ForListing, GivesCommand, IsListed, IsNoCommand, IsStatusOf, LeavesReport}
-use Rattle.salvage_cli.specs.Wanted.{wanted}
+use Rattle.salvage_cli.specs.Wanted.{listing_answer}
 use Rattle.salvage_cli.specs.Run.{GivesWanted, IsEarly, text_of}
 use Rattle.salvage_cli.specs.declared.faults.Fault.{Fault}
 use Rattle.salvage_cli.specs.declared.faults.Fault.TheVariants.{Usage, InputFault, TooLarge, NoPageSize, NoWholePage, Utf16, OutputTooLarge, OutputFault, ScriptFault, ReportFault, Memory}
@@ -89,7 +89,7 @@ pub listed_told : {A : Type 0} (command : Option Asked) (told old new : Option (
     → IfSome told (λ all. ForListing command all (λ want. IsListed want old new))
 listed_told command None old new answer h e = tt
 listed_told None (Some all) old new answer h e = elim (refused answer h) [ inl two ↦ absurd (omega arith) | inr eleven ↦ absurd (omega arith) ]
-listed_told (Some (Lists listing file)) (Some all) old new answer h e = listed_of (wanted listing file all) old new answer h e
+listed_told (Some (Lists listing file)) (Some all) old new answer h e = listed_of (listing_answer listing file all) old new answer h e
 listed_told (Some (Recovers r)) (Some all) old new answer h e = tt
 listed_told (Some (Tries n)) (Some all) old new answer h e = tt
 
@@ -119,6 +119,6 @@ pub status_told : {A : Type 0} (command : Option Asked) (told old new : Option (
     → IfSome told (λ all. ForListing command all (λ want. IsStatusOf want (status_of answer)))
 status_told command None old new answer h = tt
 status_told None (Some all) old new answer h = none_status answer h
-status_told (Some (Lists listing file)) (Some all) old new answer h = status_by (wanted listing file all) old new answer h
+status_told (Some (Lists listing file)) (Some all) old new answer h = status_by (listing_answer listing file all) old new answer h
 status_told (Some (Recovers r)) (Some all) old new answer h = tt
 status_told (Some (Tries n)) (Some all) old new answer h = tt

@@ -6,14 +6,14 @@ use Rattle.salvage_cli.specs.Answers.{fault_line, status_of}
 use Rattle.salvage_cli.specs.Recovery.{EndsAs, IsBeforeOutput, IsBeforeReport, IsBeforeScript, Turns}
 use Rattle.salvage_cli.specs.Run.{GivesWanted, HasNumbers, IsEarly, IsOfListing}
 use Rattle.salvage_cli.specs.Tried.{EndsTrial, IsOfTrial}
-use Rattle.salvage_cli.specs.Wanted.{wanted}
+use Rattle.salvage_cli.specs.Wanted.{listing_answer}
 use Rattle.salvage_cli.specs.declared.faults.Fault.{Fault}
 use Rattle.salvage_cli.specs.declared.faults.Fault.TheVariants.{Usage, NoPageSize, NoWholePage, Utf16, Memory}
 
 -- of a listing, what is said of its text or refusal; of words that are no command, the same of their refusal
 abbrev pub ForListing : Option Asked → List ℕ → (Result (List ℕ) Fault → Type 0) → Type 0
 ForListing None bytes P = P (Err Usage)
-ForListing (Some (Lists listing file)) bytes P = P (wanted listing file bytes)
+ForListing (Some (Lists listing file)) bytes P = P (listing_answer listing file bytes)
 ForListing (Some (Recovers r)) bytes P = ⊤
 ForListing (Some (Tries n)) bytes P = ⊤
 
@@ -28,7 +28,7 @@ IsNoCommand (Err fault) = ⊥
 abbrev pub GivesCommand : {A : Type 0} → Option Asked → List ℕ → Option (List ℕ) → Option (List ℕ) → Result A Fault → Type 0
 GivesCommand None bytes old new answer = IsNoCommand answer
 GivesCommand (Some (Lists listing file)) bytes old new answer =
-    GivesWanted (wanted listing file bytes) old new answer
+    GivesWanted (listing_answer listing file bytes) old new answer
 GivesCommand (Some (Recovers r)) bytes old new answer = ⊤
 GivesCommand (Some (Tries n)) bytes old new answer = ⊤
 

@@ -14,31 +14,31 @@ use Rattle.salvage_cli.specs.declared.faults.Fault.{Fault}
 use Rattle.salvage_cli.specs.declared.faults.Fault.TheVariants.{Utf16}
 
 -- an input that is cut into these pages
-abbrev pub file_by : List ℕ → Finding → File
-file_by bytes f = record { bytes = bytes; size = f.size; usable = f.usable; pages = f.pages }
+abbrev pub file_cut : List ℕ → Finding → File
+file_cut bytes f = record { bytes = bytes; size = f.size; usable = f.usable; pages = f.pages }
 
 -- the text of a listing
-abbrev pub listing_of : Listing → File → List ℕ
-listing_of Dbdata f = data_text f
-listing_of Dbptr f = pointers_text f
-listing_of Schema f = schema_text f
+abbrev pub listing_text : Listing → File → List ℕ
+listing_text Dbdata f = data_text f
+listing_text Dbptr f = pointers_text f
+listing_text Schema f = schema_text f
 
 -- the listing refuses the pages for the encoding of their texts: that of the schema alone, whose words are read as UTF-8
-abbrev pub refused_by : Listing → Finding → Bool
-refused_by Dbdata f = false
-refused_by Dbptr f = false
-refused_by Schema f = is_utf16 f
+abbrev pub is_refused : Listing → Finding → Bool
+is_refused Dbdata f = false
+is_refused Dbptr f = false
+is_refused Schema f = is_utf16 f
 
--- the listing of an input, nothing where it is empty; or a refusal of its pages
-abbrev pub text_by : Listing → List ℕ → Option Finding → Result (List ℕ) Fault
-text_by listing bytes None = Ok []
-text_by listing bytes (Some f) = if refused_by listing f then Err Utf16 else Ok (listing_of listing (file_by bytes f))
+-- the listing of pages that were found, or its refusal of them
+abbrev pub text_or_refusal : Listing → List ℕ → Finding → Result (List ℕ) Fault
+text_or_refusal listing bytes f = if is_refused listing f then Err Utf16 else Ok (listing_text listing (file_cut bytes f))
 
--- the listing of the pages of an input, or the refusal where it gives none
-abbrev pub wanted_by : Listing → List ℕ → Result (Option Finding) InputFault → Result (List ℕ) Fault
-wanted_by listing bytes (Err fault) = Err (of_input fault)
-wanted_by listing bytes (Ok pages) = text_by listing bytes pages
+-- what a listing answers, by what the search for the pages of its input came to; nothing where the input is empty
+abbrev pub answer_on_pages : Listing → List ℕ → Result (Option Finding) InputFault → Result (List ℕ) Fault
+answer_on_pages listing bytes (Err fault) = Err (of_input fault)
+answer_on_pages listing bytes (Ok None) = Ok []
+answer_on_pages listing bytes (Ok (Some f)) = text_or_refusal listing bytes f
 
--- what a listing of these bytes gives: its text, or a refusal
-abbrev pub wanted : Listing → FileAsked → List ℕ → Result (List ℕ) Fault
-wanted listing file bytes = wanted_by listing bytes (pages_of (2 ^ 28) file.page_size file.reserved bytes)
+-- what a listing of these bytes answers: its text, or a refusal
+abbrev pub listing_answer : Listing → FileAsked → List ℕ → Result (List ℕ) Fault
+listing_answer listing file bytes = answer_on_pages listing bytes (pages_of (2 ^ 28) file.page_size file.reserved bytes)

@@ -4,7 +4,7 @@ ghost use Rattle.page_access.specs.Files.{file_of};
 ghost use Rattle.page_access.specs.Outside.{HasCauseOf, KeepsSink, KeepsSource, WritesOf};
 ghost use Rattle.command_line.specs.Command.{file_view};
 ghost use Rattle.page_size.specs.Rule.{finding};
-ghost use Rattle.salvage_cli.specs.Wanted.{listing_of, refused_by, text_by, wanted};
+ghost use Rattle.salvage_cli.specs.Wanted.{is_refused, listing_answer, listing_text, text_or_refusal};
 ghost use Rattle.salvage_cli.specs.Outcome.{StaysUnfinished};
 ghost use Rattle.salvage_cli.specs.Run.{GivesWanted, HasNumbers, IsEarly, IsLate, IsOfListing};
 
@@ -26,7 +26,7 @@ pub(crate) fn list<S: Source, R: Sink>(
     report: &mut R,
 ) -> Result<(), Fault>
     ensures told { IfSome (S.bytes src.old)
-        (λ all. GivesWanted (wanted listing (file_view input.now) all) (R.bytes report.old)
+        (λ all. GivesWanted (listing_answer listing (file_view input.now) all) (R.bytes report.old)
         (R.bytes report.new) result) }
     ensures name { OnOk result (S.attached src.new ≡ Some input.now.name.now) }
     ensures finished { OnOk result (R.finished report.new ≡ true) }
@@ -62,7 +62,7 @@ fn put_found<S: Source, R: Sink>(
     report: &mut R,
 ) -> Result<(), Fault>
     ensures told { IfSome (S.bytes src.old)
-        (λ all. GivesWanted (text_by listing all (Some (finding found.now))) (R.bytes report.old)
+        (λ all. GivesWanted (text_or_refusal listing all (finding found.now)) (R.bytes report.old)
         (R.bytes report.new) result) }
     ensures finished { OnOk result (R.finished report.new ≡ true) }
     ensures early { IsEarly result → report.new ≡ report.old }
@@ -83,7 +83,7 @@ fn put_found<S: Source, R: Sink>(
 
 // Whether the listing refuses the pages for the encoding of their texts.
 fn is_refused(listing: Listing, found: &Found) -> bool
-    ensures { result ≡ refused_by listing (finding found.now) }
+    ensures { result ≡ is_refused listing (finding found.now) }
 {
     match listing {
         Listing::Schema => is_utf16(found),
@@ -100,7 +100,7 @@ fn put_all<S: Source, R: Sink>(
     report: &mut R,
 ) -> Result<(), Fault>
     ensures text { IfSome (S.bytes src.old)
-        (λ all. GivesWanted (Ok (listing_of listing (file_of all geo.now))) (R.bytes report.old)
+        (λ all. GivesWanted (Ok (listing_text listing (file_of all geo.now))) (R.bytes report.old)
         (R.bytes report.new) result) }
     ensures finished { OnOk result (R.finished report.new ≡ true) }
     ensures source { HasCauseOf Fault.InputFault (S.faults src.old) (S.faults src.new) result }
@@ -125,7 +125,7 @@ fn put_listing<S: Source, R: Sink>(
 ) -> Result<(), Fault>
     ensures text { IfSome (S.bytes src.old) (λ all.
         WritesOf Fault.ReportFault (R.bytes report.old) (R.bytes report.new) (R.faults report.old)
-        (R.faults report.new) (listing_of listing (file_of all geo.now)) result) }
+        (R.faults report.new) (listing_text listing (file_of all geo.now)) result) }
     ensures source { HasCauseOf Fault.InputFault (S.faults src.old) (S.faults src.new) result }
     ensures sink { HasCauseOf Fault.ReportFault (R.faults report.old) (R.faults report.new) result }
     ensures kept { KeepsSource S.bytes S.attached S.faults S.reads src.old src.new }

@@ -46,3 +46,10 @@ fn a_table_of_no_pages_has_empty_lists(rt: HostRuntime) -> Result<(), Fail> {
     assert_list(&rt, &table, 15, &[]);
     Ok(())
 }
+
+#[test]
+fn all_pages_stand_in_the_one_list(rt: HostRuntime) -> Result<(), Fail> {
+    let table = PageTable::new(rt.alloc(), 3, 1)?;
+    assert_list(&rt, &table, 0, &[1, 2, 3]);
+    Ok(())
+}

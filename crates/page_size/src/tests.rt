@@ -144,6 +144,22 @@ fn a_file_shorter_than_a_page_has_no_whole_page(rt: HostRuntime) -> Result<(), F
 }
 
 #[test]
+fn a_header_alone_has_no_page(rt: HostRuntime) -> Result<(), Fail> {
+    let alloc = rt.alloc();
+    let mut src = SureSource::new(zeros(alloc, 100)?);
+    let found = parts(find_geometry(alloc, &mut src, 100, None, None));
+    assert_eq!(rt; found, Err(GeoFault::NoPageSize));
+    let mut src = with_header(&rt, alloc, 100, &[2, 0], 0)?;
+    let found = parts(find_geometry(alloc, &mut src, 100, None, None));
+    let fault = GeoFault::NoWholePage {
+        len: 100,
+        size: 512,
+    };
+    assert_eq!(rt; found, Err(fault));
+    Ok(())
+}
+
+#[test]
 fn missing_bytes_of_a_header_are_zeros(rt: HostRuntime) -> Result<(), Fail> {
     let mut bytes = zeros(rt.alloc(), 63)?;
     place(&rt, &mut bytes, 16, &[2, 1]);

@@ -4,7 +4,8 @@ use Rattle.page_access.specs.declared.geometry.Geometry.{Geometry}
 use Rattle.std.proofs.lemmas.List.FromFn.{length-range_with_len}
 use Rattle.page_lists.specs.Table.{Table, fresh, unused}
 use Rattle.page_walk.specs.Turns.{ReadsEach}
-use Rattle.dbdata_list.specs.Reads.{FewReads, FewReadsOf}
+use Rattle.page_access.specs.Files.{FewReads}
+use Rattle.dbdata_list.specs.Reads.{FewReadsOf}
 
 -- no read
 pub few_none : (o : Option (List ℕ)) (geo : Geometry) (n most : ℕ) → FewReads o geo n n most

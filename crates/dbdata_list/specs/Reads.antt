@@ -4,10 +4,6 @@ use Rattle.page_access.specs.Files.{IsWhole}
 use Rattle.page_access.specs.declared.geometry.Geometry.{Geometry}
 use Rattle.page_lists.specs.Table.{Table, unused}
 
--- at most so many reads, where the source tells all pages
-abbrev pub FewReads : Option (List ℕ) → Geometry → ℕ → ℕ → ℕ → Type 0
-FewReads told geo before now most = IfSome told (λ all. IsWhole all geo → now ≤ before + most)
-
 -- at most so many reads besides one for each page that is no longer unused
 abbrev pub FewReadsOf : Option (List ℕ) → Geometry → Table → ℕ → ℕ → ℕ → Type 0
 FewReadsOf told geo table before now most =

@@ -1,13 +1,12 @@
 //! The listing of all cells.
 ghost use Rattle.std.specs.Prelude.{◌≡◌, ◌≤◌, ◌+◌, ◌*◌, length, map, IfSome, OnOk, is_ok, if◌then◌else◌};
 ghost use Rattle.page_access.specs.Cache.{IsCacheOf};
-ghost use Rattle.page_access.specs.Files.{file_of};
+ghost use Rattle.page_access.specs.Files.{FewReads, file_of};
 ghost use Rattle.page_access.specs.Outside.{HasCauseOf, KeepsSink, KeepsSource, Writes, WritesOf};
 ghost use Rattle.page_lists.specs.Table.{unused};
 ghost use Rattle.page_walk.specs.Cells.{outcome_of};
 ghost use Rattle.page_walk.specs.Turns.{ReadsEach, left_by};
 ghost use Rattle.dbdata_list.specs.Listing.{data_text, page_data};
-ghost use Rattle.dbdata_list.specs.Reads.{FewReads};
 ghost use Rattle.dbdata_list.specs.Text.{outcome_text, outcomes_text};
 
 use crate::faults::ListFault;

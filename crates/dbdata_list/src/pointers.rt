@@ -1,10 +1,9 @@
 //! The listing of the page numbers that pages name.
 ghost use Rattle.std.specs.Prelude.{◌≡◌, ◌≤◌, ◌+◌, length, IfSome};
 ghost use Rattle.page_access.specs.Cache.{IsCacheOf};
-ghost use Rattle.page_access.specs.Files.{file_of};
+ghost use Rattle.page_access.specs.Files.{FewReads, file_of};
 ghost use Rattle.page_access.specs.Outside.{HasCauseOf, KeepsSink, KeepsSource, Writes, WritesOf};
 ghost use Rattle.dbdata_list.specs.Listing.{page_pointers, pointers_text};
-ghost use Rattle.dbdata_list.specs.Reads.{FewReads};
 ghost use Rattle.dbdata_list.specs.Text.{pointer_line, pointer_lines};
 
 use crate::faults::ListFault;

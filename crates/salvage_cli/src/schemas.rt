@@ -1,10 +1,9 @@
 //! The listing of the schema.
 ghost use Rattle.std.specs.Prelude.{◌≡◌, ◌+◌, ◌*◌, map, IfOk, IfSome};
 ghost use Rattle.std.specs.List.{flat_map};
-ghost use Rattle.page_access.specs.Files.{file_of};
+ghost use Rattle.page_access.specs.Files.{FewReads, file_of};
 ghost use Rattle.page_access.specs.Outside.{HasCauseOf, KeepsSink, KeepsSource, Writes, WritesOf};
 ghost use Rattle.page_walk.specs.Cells.{row_of};
-ghost use Rattle.dbdata_list.specs.Reads.{FewReads};
 ghost use Rattle.salvage_cli.specs.Schema.{bad_line, lines_text, row_line, schema_text};
 
 use dbdata_list::ListFault;

@@ -1,7 +1,5 @@
 -- The most reads of a salvage (docs/ARCHITECTURE.md, "Bounds").
-use Rattle.std.specs.Prelude.{ℕ, ◌+◌, ◌*◌, ◌/◌, ◌≤◌, nat_le, if◌then◌else◌, Option, Some, None, IfSome, Result, Ok, Err, List, length}
-use Rattle.page_access.specs.Files.{IsWhole}
-use Rattle.page_access.specs.declared.geometry.Geometry.{Geometry}
+use Rattle.std.specs.Prelude.{ℕ, ◌+◌, ◌*◌, ◌/◌, nat_le, if◌then◌else◌, Option, Some, None, Result, Ok, Err, List, length}
 use Rattle.page_size.specs.Rule.{Finding}
 use Rattle.page_size.specs.declared.finds.Origin.{Origin}
 use Rattle.page_size.specs.declared.finds.Origin.TheVariants as origins
@@ -29,7 +27,3 @@ most_by len (Err fault) = len / 256 + 1
 -- the most reads of a salvage of these bytes under the options
 abbrev pub most_reads : Options → List ℕ → ℕ
 most_reads o all = most_by (length all) (input_of o all)
-
--- there are at most so many reads of a file that is cut so, where the source tells all its pages
-abbrev pub ReadsFew : Option (List ℕ) → Geometry → ℕ → ℕ → ℕ → Type 0
-ReadsFew told geo before now most = IfSome told (λ all. IsWhole all geo → now ≤ before + most)

@@ -1,4 +1,8 @@
 //! What a file gives.
+ghost use Rattle.std.specs.Prelude.{◌≡◌, ◌^◌, ◌-◌, min, length, sum_by};
+ghost use Rattle.table_shape.specs.declared.rows.OutTable.{OutTable};
+ghost use Rattle.salvage_core.specs.Outcome.{rows_out};
+
 use crate::Options;
 use db_builder::OutDb;
 use orphan_trees::OrphanTree;
@@ -8,6 +12,7 @@ use page_size::Origin;
 use raw_schema::SchemaRow;
 use report_text::ReportLine;
 use salvaged_tables::{FailedEntry, Placed, ScriptText};
+use table_shape::OutTable;
 use tree_uses::TreeUse;
 
 /// All that the bytes of a file give.
@@ -40,4 +45,24 @@ pub struct Gathered {
     pub script: Vec<ScriptText>,
     /// The report but its last line.
     pub lines: Vec<ReportLine>,
+}
+
+impl Gathered {
+    /// The number of rows of the tables that are built, but for that of the lost cells; at most 2^64 - 1.
+    pub fn rows_out(&self) -> u64
+        ensures { result ≡ rows_out self.now }
+    {
+        rows_in(&self.db.tables).saturating_sub(self.lost)
+    }
+}
+
+// The number of rows of tables.
+fn rows_in(tables: &[OutTable]) -> u64
+    ensures { result ≡ min (sum_by (λ (t : OutTable). length t.rows.items) tables.now) (2 ^ 64 - 1) }
+{
+    let mut rows: u64 = 0;
+    for table in tables {
+        rows = rows.saturating_add(table.rows.len() as u64);
+    }
+    rows
 }

@@ -1,12 +1,13 @@
 //! What the bytes of an input give.
 ghost use Rattle.std.specs.Prelude.{◌≡◌, ◌≤◌, ◌+◌, ◌^◌, unwrap_or, IsTrue, Some, IfOk, IfSome, OnOk};
 ghost use Rattle.page_access.specs.Outside.{HasCauseOf, KeepsSource};
+ghost use Rattle.page_access.specs.Files.{FewReads};
 ghost use Rattle.page_access.specs.Pages.{is_page_size};
 ghost use Rattle.page_size.specs.Rule.{finding};
 ghost use Rattle.input_pages.specs.Input.{IsWithin, left_of};
 ghost use Rattle.salvage_core.specs.Outcome.{HasNumbers};
 ghost use Rattle.salvage_core.specs.Plan.{AreOptions, Gathers, IsEmptyPlan, IsPagesAnswer, IsReadAnswer, trunk_of};
-ghost use Rattle.salvage_core.specs.Reads.{ReadsFew, most_reads, page_reads};
+ghost use Rattle.salvage_core.specs.Reads.{most_reads, page_reads};
 ghost use Rattle.salvage_core.specs.Sound.{IsSound, OnlyOfInput};
 
 use crate::assemble::assemble;
@@ -121,7 +122,7 @@ fn gather_pages<S: Source>(
     ensures only { IsReadAnswer result }
     ensures cause { HasCauseOf Fault.InputFault (S.faults src.old) (S.faults src.new) result }
     ensures kept { KeepsSource S.bytes S.attached S.faults S.reads src.old src.new }
-    ensures reads { ReadsFew (S.bytes src.old) input.now.found.geometry
+    ensures reads { FewReads (S.bytes src.old) input.now.found.geometry
         (S.reads src.old) (S.reads src.new) (page_reads input.now.found.geometry.pages + 1) }
 {
     let found = &input.found;

@@ -1,7 +1,6 @@
 //! The salvage.
 ghost use Rattle.std.specs.Prelude.{◌≡◌, ◌≤◌, ◌+◌, ◌^◌, ◌-◌, min, length, sum_by, Some, IfSome, OnOk, string_bytes};
 ghost use Rattle.page_access.specs.Outside.{HasCauseOf};
-ghost use Rattle.table_shape.specs.declared.rows.OutTable.{OutTable};
 ghost use Rattle.db_builder.specs.Prepared.{IsPrepared};
 ghost use Rattle.salvage_core.specs.Plan.{AreOptions};
 ghost use Rattle.salvage_core.specs.Reads.{most_reads};
@@ -14,7 +13,6 @@ use layout_laws::the_file_of_a_database_spells_it;
 use page_access::{Sink, Source};
 use salvage_files::{write_database, write_report, write_script};
 use std::alloc::Global;
-use table_shape::OutTable;
 
 /// What a salvage did.
 #[derive(Clone, Copy, Debug, PartialEq, Eq)]
@@ -160,18 +158,7 @@ fn write_all<O: Sink, T: Sink, R: Sink>(
     Ok(Summary {
         pages_in: gathered.uses.pages(),
         pages_out,
-        rows: rows_in(&db.tables).saturating_sub(gathered.lost),
+        rows: gathered.rows_out(),
         lost: gathered.lost,
     })
-}
-
-// The number of rows of tables.
-fn rows_in(tables: &[OutTable]) -> u64
-    ensures { result ≡ min (sum_by (λ (t : OutTable). length t.rows.items) tables.now) (2 ^ 64 - 1) }
-{
-    let mut rows: u64 = 0;
-    for table in tables {
-        rows = rows.saturating_add(table.rows.len() as u64);
-    }
-    rows
 }

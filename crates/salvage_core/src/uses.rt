@@ -1,8 +1,8 @@
 //! The use of each page of a file.
 ghost use Rattle.std.specs.Prelude.{◌≡◌, ◌≤◌, ◌+◌, ◌*◌, ◌^◌, length, IfOk, IfSome};
-ghost use Rattle.page_access.specs.Files.{file_of};
+ghost use Rattle.page_access.specs.Files.{FewReads, file_of};
 ghost use Rattle.page_access.specs.Outside.{HasCauseOf, KeepsSource};
-ghost use Rattle.salvage_core.specs.Reads.{ReadsFew, page_reads};
+ghost use Rattle.salvage_core.specs.Reads.{page_reads};
 ghost use Rattle.salvage_core.specs.Uses.{AreUses, HaveOrphans, HaveReadings};
 
 use orphan_uses::{OrphanUses, find_orphans};
@@ -40,7 +40,7 @@ pub(crate) fn uses_of<S: Source>(
     ensures lists { IfOk result (λ u. (u.table.pages ≡ geo.now.pages) × (length u.table.lists ≡ 7)) }
     ensures cause { HasCauseOf ReadFault.Source (S.faults src.old) (S.faults src.new) result }
     ensures kept { KeepsSource S.bytes S.attached S.faults S.reads src.old src.new }
-    ensures reads { ReadsFew (S.bytes src.old) geo.now (S.reads src.old) (S.reads src.new)
+    ensures reads { FewReads (S.bytes src.old) geo.now (S.reads src.old) (S.reads src.new)
         (page_reads geo.now.pages + 1) }
 {
     let mut cache = PageCache::new(alloc, geo, CACHED_PAGES)?;

@@ -9,7 +9,7 @@ ghost use Rattle.salvage_trial.specs.Trial.{Ends, IsTrialText};
 use crate::TrialFault;
 use crate::files::{blank, file_of};
 use crate::lines::{Counts, Numbers, put_lines};
-use crate::salvages::{rows_out, salvage};
+use crate::salvages::salvage;
 use layout_laws::{a_layout_is_whole, the_file_of_a_database_spells_it};
 use page_access::Sink;
 use salvage_core::Gathered;
@@ -74,7 +74,7 @@ fn counts_of(gathered: &Gathered) -> Counts
     ensures lost { result.lost ≡ gathered.now.lost }
 {
     Counts {
-        rows: rows_out(gathered),
+        rows: gathered.rows_out(),
         lost: gathered.lost,
     }
 }

@@ -1,10 +1,9 @@
 use Rattle.std.proofs.Common.{◌≡◌, ◌+◌, ◌-◌, length}
 use Rattle.page_access.specs.Cache.{IsCacheOf}
-use Rattle.page_access.specs.Files.{file_of}
+use Rattle.page_access.specs.Files.{FewReads, file_of}
 use Rattle.page_access.specs.Outside.{KeepsSink}
 use Rattle.page_access.proofs.Keeps.{Passed}
 use Rattle.dbdata_list.specs.Listing.{page_pointers, pages_text, pointers_text}
-use Rattle.dbdata_list.specs.Reads.{FewReads}
 use Rattle.dbdata_list.proofs.Told.{ToldFront}
 use Rattle.dbdata_list.proofs.pointers.list_pointers.Given as goal
 

@@ -1,6 +1,6 @@
-use Rattle.std.proofs.Common.{◌≡◌, ◌≤◌, ◌+◌, ◌-◌, ◌^◌, drop, length, min, sum_by}
+use Rattle.std.proofs.Common.{◌≡◌, ◌≤◌, ℕ, ◌+◌, ◌-◌, ◌^◌, drop, length, min, sum_by}
 use Rattle.table_shape.specs.declared.rows.OutTable.{OutTable}
-use Rattle.salvage_trial.proofs.salvages.rows_in.Given as goal
+use Rattle.salvage_core.proofs.gathered.rows_in.Given as goal
 
 abbrev pub invariant-loop-table : goal.invariant-loop-table
 invariant-loop-table l =

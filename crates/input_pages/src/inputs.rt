@@ -1,5 +1,5 @@
 //! How an input is opened.
-ghost use Rattle.std.specs.Prelude.{◌≡◌, ◌≢◌, ◌≤◌, ◌+◌, ◌/◌, ◌^◌, length, Some, IsTrue, IfOk, IfSome, OnOk, if◌then◌else◌};
+ghost use Rattle.std.specs.Prelude.{◌≡◌, ◌≢◌, ◌≤◌, ◌+◌, ◌/◌, ◌^◌, ◌⊎◌, length, Some, IsTrue, IsErrOf, IfOk, IfSome, OnOk, if◌then◌else◌};
 ghost use Rattle.page_access.specs.Files.{IsWhole};
 ghost use Rattle.page_access.specs.Outside.{HasCauseOf, KeepsSource};
 ghost use Rattle.page_access.specs.Pages.{is_page_size};
@@ -26,6 +26,7 @@ pub struct Input {
 /// Opens the input of this name, of at most `limit` bytes, and finds its pages: none where it is empty.
 /// `page_size` is a page size in bytes, and `reserved`, bytes at the end of each page, leaves 480 of it.
 /// `TooLarge` where it has more bytes, then the faults of `find_geometry`.
+/// `Memory` before the input is touched, or where neither an option nor the header gives the page size.
 pub fn open_input<S: Source>(
     alloc: Global,
     src: &mut S,
@@ -58,6 +59,10 @@ pub fn open_input<S: Source>(
     ensures reads { S.reads src.old ≤ S.reads src.new }
     ensures few_reads { IfSome (S.bytes src.old) (λ all. S.reads src.new ≤ S.reads src.old + 1
         + (if is_scored all page_size reserved then length all / 256 else 0)) }
+
+    // memory is asked for before the input is touched, and then only where the page size is scored
+    ensures memory { IfSome (S.bytes src.old) (λ all. IsErrOf result InputFault.Memory
+        → (src.new ≡ src.old) ⊎ IsTrue (is_scored all page_size reserved)) }
 {
     attach(alloc, src, name)?;
     find_pages(alloc, src, limit, page_size, reserved)
@@ -69,6 +74,7 @@ fn attach<S: Source>(alloc: Global, src: &mut S, name: &str) -> Result<(), ReadF
     ensures cause { HasCauseOf ReadFault.Source (S.faults src.old) (S.faults src.new) result }
     ensures bytes { S.bytes src.new ≡ S.bytes src.old }
     ensures reads { S.reads src.new ≡ S.reads src.old }
+    ensures memory { IsErrOf result ReadFault.Memory → src.new ≡ src.old }
 {
     let name = String::from_str(alloc, name)?;
     src.attach(name)?;
@@ -99,6 +105,8 @@ fn find_pages<S: Source>(
     ensures kept { KeepsSource S.bytes S.attached S.faults S.reads src.old src.new }
     ensures few_reads { IfSome (S.bytes src.old) (λ all. S.reads src.new ≤ S.reads src.old + 1
         + (if is_scored all page_size reserved then length all / 256 else 0)) }
+    ensures memory { IfSome (S.bytes src.old) (λ all. IsErrOf result InputFault.Memory
+        → IsTrue (is_scored all page_size reserved)) }
 {
     let len = src.length()?;
     if len > limit {

@@ -196,6 +196,9 @@ fn sizing_of<S: Source>(
     ensures reads { IfSome (S.bytes src.old) (λ all. length all ≡ len →
         S.reads src.new ≤ S.reads src.old
         + (if is_none (given_sizing header.now page_size reserved) then len / 256 else 0)) }
+    // memory is asked for only where the sizes are scored
+    ensures memory { IsErrOf result ReadFault.Memory
+        → IsTrue (is_none (given_sizing header.now page_size reserved)) }
 {
     match given_sizing(header, page_size, reserved) {
         Some(sizing) => Ok(Some(sizing)),
@@ -206,7 +209,8 @@ fn sizing_of<S: Source>(
 /// The pages of a source of `len` bytes, from 1 to 2^28. `page_size` is a page size, and `reserved`
 /// leaves 480 bytes of it. A chosen page size comes first, then the header's where it is one and
 /// leaves 480 usable bytes, then the one whose pages look most like pages of trees. `NoPageSize`
-/// where no page looks so, `NoWholePage` where the page size is over `len`.
+/// where no page looks so, `NoWholePage` where the page size is over `len`, `Memory` only where the pages
+/// have to be looked at.
 pub fn find_geometry<S: Source>(
     alloc: Global,
     src: &mut S,
@@ -228,6 +232,9 @@ pub fn find_geometry<S: Source>(
     ensures reads { IfSome (S.bytes src.old) (λ all. length all ≡ len →
         S.reads src.new ≤ S.reads src.old + 1
         + (if is_scored all page_size reserved then len / 256 else 0)) }
+    // memory is asked for only where the sizes are scored
+    ensures memory { IfSome (S.bytes src.old) (λ all. length all ≡ len →
+        IsErrOf result GeoFault.Memory → IsTrue (is_scored all page_size reserved)) }
 {
     let header = header_of_source(src, len, &mut [0; 100])?;
     let Some(sizing) = sizing_of(alloc, src, len, &header, page_size, reserved)? else {

@@ -3,6 +3,7 @@ use Rattle.std.proofs.Common.{◌≡◌, ◌<◌, ℕ, ◌+◌, ◌-◌, Bool, t
 use Rattle.std.specs.Prelude.{IfSome}
 use Rattle.std.proofs.lemmas.Grind.{flat_map-append}
 use Rattle.std.proofs.lemmas.List.{append_cancel_left, map-append, take-append-drop}
+use Rattle.std.proofs.Math.Seq.{take-length}
 use Rattle.page_access.specs.declared.geometry.Geometry.{Geometry}
 use Rattle.page_access.specs.Files.{file_of}
 use Rattle.page_access.specs.Pages.{page_at}
@@ -64,8 +65,12 @@ cell_front o geo page p i l payload cell v old new is pay =
     (subst (λ (ps : List ℕ). MovesFront ps l old new)
     (sym (append-nil (chain_of (entry_at f page p i v (unused old))) ∙ entry_chain f page p i v (unused old))) m)))
 
+-- all pages moved
+pub front_all : (ps : List ℕ) (l : ℕ) (old new : Table) → new ≡ all_moved ps l old → MovesFront ps l old new
+front_all ps l old new all = (length ps, all ∙ ap (λ (qs : List ℕ). all_moved qs l old) (sym (take-length ps)))
+
 -- some pages moved, and then a front of the next ones
-then_front : (now next later all : List ℕ) (l : ℕ) (old new new' : Table) → new ≡ all_moved now l old → MovesFront next l new new'
+pub then_front : (now next later all : List ℕ) (l : ℕ) (old new new' : Table) → new ≡ all_moved now l old → MovesFront next l new new'
     → now ++ (next ++ later) ≡ all → MovesFront all l old new'
 then_front now next later all l old new new' table (k, more) e =
     let front : List ℕ = now ++ take k next in

@@ -7,13 +7,13 @@ use Rattle.std.proofs.lemmas.List.{length-map}
 use Rattle.page_access.specs.declared.geometry.Geometry.{Geometry}
 use Rattle.page_access.specs.declared.outside.Source as source
 use Rattle.page_access.specs.Cache.{Cache, HasAll, IsCacheOf}
-use Rattle.page_access.specs.Files.{IsWhole}
+use Rattle.page_access.specs.Files.{IsWhole, file_of}
 use Rattle.page_access.specs.Outside.{KeepsSource}
 use Rattle.page_access.specs.Pages.{File}
 use Rattle.page_access.proofs.Caching.{cached_at}
 use Rattle.page_access.proofs.Keeps.{Passed, passed_more, passed_none}
 use Rattle.page_lists.specs.Lists.{IsPartOf, minus}
-use Rattle.page_lists.specs.Table.{Table, Moves, all_moved, unused}
+use Rattle.page_lists.specs.Table.{Table, Moves, MovesFront, all_moved, unused}
 use Rattle.page_lists.proofs.Counts.{minus-append, part_append, part_none}
 use Rattle.page_lists.proofs.Uses.{Moves-append, Moves-none, all_moved-append, unused-all_moved}
 use Rattle.page_walk.specs.declared.outcomes.CellOutcome.{CellOutcome}
@@ -21,6 +21,7 @@ use Rattle.page_walk.specs.Bounds.{Adds, IsSmall}
 use Rattle.page_walk.specs.Cells.{chains_of, outcome_of, outcomes_on}
 use Rattle.page_walk.specs.InTurn.{IsSmallTurn, in_turn, pages_of_turn}
 use Rattle.page_walk.specs.Turns.{ReadsEach, chains_on, left_by, turns_on}
+use Rattle.page_walk.proofs.Fronts.{front_all, then_front}
 use Rattle.page_walk.proofs.Going.{all_append, always_told, both_told, one_told}
 
 -- steps over some items, and then over more
@@ -199,6 +200,40 @@ stepping_full {s = s} {geo} {first = first} {now} c new n more was step all =
           (reads_more (s.bytes first.src) (s.bytes now.src) geo first.table now.table new (s.reads first.src) (s.reads now.src) n 0 more was.kept.told before.1 after.1),
     )
 
+-- the pages that all steps take
+abbrev pub taken_in_turn : {A X : Type 0} → Steps A X → List A → List ℕ → List ℕ → List ℕ
+taken_in_turn k xs unused all = flat_map k.taken (in_turn (k.give all) k.taken xs unused)
+
+-- a front of them has moved, where the next step took a front of its own
+pub stepping_front : {S A X : Type 0} {s : source.Ghosts S} {geo : Geometry} {k : Steps A X} {xs left : List A} {first now : Moment S} {done : List X}
+    (a : A) (rest : List A) (new : Table) → Stepping s geo k xs left first now done → left ≡ a ∷ rest
+    → IfSome (s.bytes now.src) (λ all. MovesFront (k.taken (k.give all a (unused now.table))) k.list now.table new)
+    → IfSome (s.bytes first.src) (λ all. MovesFront (taken_in_turn k xs (unused first.table) all) k.list first.table new)
+stepping_front {A = A} {X} {s} {k = k} {xs} {left} {first} {now} {done} a rest new was next front =
+    both_told (λ all. done ++ in_turn (k.give all) k.taken left (unused now.table) ≡ in_turn (k.give all) k.taken xs (unused first.table))
+    (λ all. MovesFront (k.taken (k.give all a (unused now.table))) k.list now.table new)
+    (λ all. MovesFront (taken_in_turn k xs (unused first.table) all) k.list first.table new)
+    (s.bytes first.src) (s.bytes now.src) was.kept.told
+    (λ all p m.
+    let here : X = k.give all a (unused now.table) in
+    let later : List X = in_turn (k.give all) k.taken rest (minus (unused now.table) (k.taken here)) in
+    then_front (flat_map k.taken done) (k.taken here) (flat_map k.taken later) (taken_in_turn k xs (unused first.table) all) k.list
+    first.table now.table new was.moved m
+    (sym (flat_map-append k.taken done (here ∷ later))
+    ∙ ap (λ (ys : List A). flat_map k.taken (done ++ in_turn (k.give all) k.taken ys (unused now.table))) (sym next)
+    ∙ ap (flat_map k.taken) p))
+    was.value front
+
+-- all of them have moved, where all steps were made
+pub stepping_front_all : {S A X : Type 0} {s : source.Ghosts S} {geo : Geometry} {k : Steps A X} {xs left : List A} {first now : Moment S} {done : List X}
+    → Stepping s geo k xs left first now done → left ≡ []
+    → IfSome (s.bytes first.src) (λ all. MovesFront (taken_in_turn k xs (unused first.table) all) k.list first.table now.table)
+stepping_front_all {X = X} {s} {k = k} {xs} {left} {first} {now} {done} was end =
+    one_told (λ all. done ≡ in_turn (k.give all) k.taken xs (unused first.table))
+    (λ all. MovesFront (taken_in_turn k xs (unused first.table) all) k.list first.table now.table) (s.bytes first.src)
+    (λ all e. front_all (taken_in_turn k xs (unused first.table) all) k.list first.table now.table
+    (was.moved ∙ ap (λ (zs : List X). all_moved (flat_map k.taken zs) k.list first.table) e)) (stepping_value was end)
+
 all_mapped : {X Y : Type 0} (P : Y → Type 0) (f : X → Y) (xs : List X) → AllByRecursion (λ x. P (f x)) xs → AllByRecursion P (map f xs)
 all_mapped P f [] all = tt
 all_mapped P f (x ∷ xs) all = (all.0, all_mapped P f xs all.1)
@@ -220,3 +255,12 @@ turn_small usable pages page before after none adds low high =
 pub chains_are : (f : File) (ps unused : List ℕ) → flat_map pages_of_turn (turns_on f ps unused) ≡ chains_on f ps unused
 chains_are f [] unused = refl
 chains_are f (p ∷ ps) unused = ap (λ (qs : List ℕ). chains_of (outcomes_on f p unused) ++ qs) (chains_are f ps (left_by f p unused))
+
+-- and a front of them, where the turns are told
+pub chains_front : (o : Option (List ℕ)) (geo : Geometry) (ps : List ℕ) (l : ℕ) (old new : Table)
+    → IfSome o (λ all. MovesFront (flat_map pages_of_turn (turns_on (file_of all geo) ps (unused old))) l old new)
+    → IfSome o (λ all. MovesFront (chains_on (file_of all geo) ps (unused old)) l old new)
+chains_front o geo ps l old new =
+    one_told (λ all. MovesFront (flat_map pages_of_turn (turns_on (file_of all geo) ps (unused old))) l old new)
+    (λ all. MovesFront (chains_on (file_of all geo) ps (unused old)) l old new) o
+    (λ all m. subst (λ (qs : List ℕ). MovesFront qs l old new) (chains_are (file_of all geo) ps (unused old)) m)

@@ -5,11 +5,11 @@ ghost use Rattle.page_access.specs.Cache.{HasAll, IsCacheOf};
 ghost use Rattle.page_access.specs.Files.{file_of};
 ghost use Rattle.page_access.specs.Outside.{HasCauseOf, KeepsSource};
 ghost use Rattle.page_access.specs.declared.outside.ReadFault.TheVariants as faults;
-ghost use Rattle.page_lists.specs.Table.{Moves, all_moved, unused};
+ghost use Rattle.page_lists.specs.Table.{Moves, MovesFront, all_moved, unused};
 ghost use Rattle.page_walk.specs.Bounds.{ArePages};
-ghost use Rattle.page_walk.specs.Cells.{outcome_of, outcomes_on};
+ghost use Rattle.page_walk.specs.Cells.{chains_of, outcome_of, outcomes_on};
 ghost use Rattle.page_walk.specs.InTurn.{IsSmallTurn, pages_of_turn, turn_of};
-ghost use Rattle.page_walk.specs.Turns.{ReadsEach, turns_on};
+ghost use Rattle.page_walk.specs.Turns.{ReadsEach, chains_on, turns_on};
 
 use crate::cells::cells_with;
 use crate::outcomes::CellOutcome;
@@ -48,6 +48,10 @@ fn turn_page<S: Source>(
     ensures moved { IfOk result
         (λ t. table.new ≡ all_moved (pages_of_turn (turn_of t)) 4 table.old) }
     ensures small { IfOk result (λ t. IsSmallTurn geo.now.usable geo.now.pages (turn_of t)) }
+    // at every exit
+    ensures table_front { IfSome (S.bytes src.old) (λ all. MovesFront
+        (chains_of (outcomes_on (file_of all geo.now) page (unused table.old)))
+        4 table.old table.new) }
     ensures cause { HasCauseOf faults.Source (S.faults src.old) (S.faults src.new) result }
     ensures kept { KeepsSource S.bytes S.attached S.faults S.reads src.old src.new }
     ensures moves { Moves 4 table.old table.new }
@@ -74,7 +78,8 @@ fn turn_page<S: Source>(
 }
 
 /// What becomes of the cells of the pages, which take their turns page by page and in cell order. The overflow
-/// pages that they take move to the list of overflow pages. After an error some pages have moved.
+/// pages that they take move to the list of overflow pages. After an error the first of them, however many, have
+/// moved.
 pub fn read_turns<S: Source>(
     alloc: Global,
     src: &mut S,
@@ -94,6 +99,9 @@ pub fn read_turns<S: Source>(
     ensures small { IfOk result (λ v.
         AllByRecursion (IsSmallTurn geo.now.usable geo.now.pages) (map turn_of v.items)) }
     ensures len { IfOk result (λ v. length v.items ≡ length pages.now) }
+    // at every exit
+    ensures table_front { IfSome (S.bytes src.old) (λ all. MovesFront
+        (chains_on (file_of all geo.now) pages.now (unused table.old)) 4 table.old table.new) }
     ensures cause { HasCauseOf faults.Source (S.faults src.old) (S.faults src.new) result }
     ensures kept { KeepsSource S.bytes S.attached S.faults S.reads src.old src.new }
     ensures moves { Moves 4 table.old table.new }

@@ -1,17 +1,17 @@
 -- The pages of the schema's tree: the reads of them, and what is claimed of the pages that a walk gave.
-use Rattle.std.proofs.Common.{◌≡◌, ◌∙◌, ◌≤◌, ℕ, ◌+◌, ◌*◌, if◌then◌else◌, Option, Result, Ok, Err, IfOk, IsErr, is_ok, List, length, ap, subst, arith, length-append}
+use Rattle.std.proofs.Common.{◌≡◌, ◌∙◌, ◌≤◌, ℕ, ◌+◌, ◌*◌, if◌then◌else◌, Option, Result, Ok, Err, IfOk, IsErr, is_ok, inl, inr, List, length, ap, subst, arith, length-append}
 use Rattle.std.specs.Prelude.{IfSome}
 use Rattle.page_access.specs.declared.geometry.Geometry.{Geometry}
 use Rattle.page_access.specs.Files.{IsWhole, file_of}
 use Rattle.page_access.specs.Pages.{File}
 use Rattle.page_lists.specs.Lists.{IsPartOf, minus}
-use Rattle.page_lists.specs.Table.{IsPartition, Table, Moves, all_moved, list_at, moved, unused}
+use Rattle.page_lists.specs.Table.{IsPartition, Table, Moves, MovesFront, all_moved, list_at, moved, unused}
 use Rattle.page_lists.proofs.Counts.{length-minus}
 use Rattle.page_lists.proofs.Uses.{list_at-all_moved, list_at-all_moved-other, unused-all_moved}
 use Rattle.overflow_chain.specs.declared.TheConstants.{OVERFLOW_LIST}
-use Rattle.page_walk.specs.Turns.{ReadsEach}
+use Rattle.page_walk.specs.Turns.{ReadsEach, chains_on}
 use Rattle.page_walk.proofs.Going.{always_told, both_told, one_told}
-use Rattle.raw_schema.specs.Schema.{ReadsChains, ReadsTwice, schema_pages}
+use Rattle.raw_schema.specs.Schema.{ReadsChains, ReadsTwice, SchemaFront, after_tree, schema_chains, schema_pages}
 use Rattle.raw_schema.specs.declared.TheConstants.{SCHEMA_LIST}
 
 -- no more pages are unused after moves
@@ -72,6 +72,24 @@ tree_claim o o' geo pages old mid Claim same value moved h =
     (subst (λ (u : List ℕ). Claim f pages u (all_moved pages SCHEMA_LIST old)) (unused-all_moved pages SCHEMA_LIST old (omega arith))
     (subst (λ (t : Table). Claim f pages (unused t) t) moved k)))
     value h
+
+-- a front of the tree's pages has moved
+pub front_of_tree : (o : Option (List ℕ)) (geo : Geometry) (old new : Table)
+    → IfSome o (λ all. MovesFront (schema_pages (file_of all geo) (unused old)) SCHEMA_LIST old new)
+    → IfSome o (λ all. SchemaFront (file_of all geo) old new)
+front_of_tree o geo old new =
+    one_told (λ all. MovesFront (schema_pages (file_of all geo) (unused old)) SCHEMA_LIST old new)
+    (λ all. SchemaFront (file_of all geo) old new) o (λ all m. inl m)
+
+-- or all of them, and a front of the overflow pages
+pub front_of_chains : (o o' : Option (List ℕ)) (geo : Geometry) (pages : List ℕ) (old mid new : Table) → o' ≡ o
+    → IfSome o (λ all. pages ≡ schema_pages (file_of all geo) (unused old)) → mid ≡ all_moved pages SCHEMA_LIST old
+    → IfSome o' (λ all. MovesFront (chains_on (file_of all geo) pages (unused mid)) OVERFLOW_LIST mid new)
+    → IfSome o (λ all. SchemaFront (file_of all geo) old new)
+front_of_chains o o' geo pages old mid new same value moved front =
+    one_told (λ all. MovesFront (schema_chains (file_of all geo) (unused old)) OVERFLOW_LIST (after_tree (file_of all geo) old) new)
+    (λ all. SchemaFront (file_of all geo) old new) o (λ all m. inr m)
+    (tree_claim o o' geo pages old mid (λ f ps u t. MovesFront (chains_on f ps u) OVERFLOW_LIST t new) same value moved front)
 
 -- the same at a success
 pub at_tree : {T E : Type 0} (r : Result T E) (o o' : Option (List ℕ)) (geo : Geometry) (pages : List ℕ) (old mid : Table)

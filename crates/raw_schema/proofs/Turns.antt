@@ -1,5 +1,5 @@
 -- The pages whose cells are sorted, and those to come.
-use Rattle.std.proofs.Common.{◌≡◌, ◌∙◌, ◌≤◌, ℕ, ◌/◌, Bool, true, false, Option, List, [], ◌∷◌, ◌++◌, length, map, refl, ap, subst, sym, arith}
+use Rattle.std.proofs.Common.{◌≡◌, ◌∙◌, ◌≤◌, ℕ, Bool, true, false, Option, List, [], ◌∷◌, ◌++◌, length, map, refl, ap, subst, sym, arith}
 use Rattle.std.specs.Prelude.{IfSome, if◌then◌else◌, is_none}
 use Rattle.std.specs.List.{AllByRecursion, flat_map}
 use Rattle.std.proofs.lemmas.List.{length-map, map-append}

@@ -1,12 +1,12 @@
 -- The schema of a file: its tree, and what its cells are (docs/FORMAT.md, "The schema"; fileformat2.html, 2.6;
 -- docs/ARCHITECTURE.md, "Order of use").
-use Rattle.std.specs.Prelude.{◌≤◌, ℕ, ◌+◌, ◌*◌, pos, nat_lt, if◌then◌else◌, is_none, IfSome, Option, List, [], ◌∷◌, filter, length}
+use Rattle.std.specs.Prelude.{◌≤◌, ◌⊎◌, ℕ, ◌+◌, ◌*◌, pos, nat_lt, if◌then◌else◌, is_none, IfSome, Option, List, [], ◌∷◌, filter, length}
 use Rattle.std.specs.List.{filter_map, flat_map}
 use Rattle.page_access.specs.Files.{IsWhole}
 use Rattle.page_access.specs.Pages.{File}
 use Rattle.page_access.specs.declared.geometry.Geometry.{Geometry}
 use Rattle.page_lists.specs.Lists.{minus}
-use Rattle.page_lists.specs.Table.{Moves, Table, all_moved, list_at, unused}
+use Rattle.page_lists.specs.Table.{Moves, MovesFront, Table, all_moved, list_at, unused}
 use Rattle.cell_reader.specs.declared.shapes.Kind.TheVariants as kinds
 use Rattle.overflow_chain.specs.declared.TheConstants.{OVERFLOW_LIST}
 use Rattle.page_walk.specs.Cells.{Outcome, Row}
@@ -54,11 +54,23 @@ bad_rows f unused = bad_in (cells_in (schema_turns f unused))
 unfoldable pub schema_notes : File → List ℕ → List (ℕ × PageNotes)
 schema_notes f unused = flat_map noted (schema_turns f unused)
 
--- the table after the schema's pages and then the overflow pages of its cells moved to their lists
+-- the overflow pages that these cells take, in turn
+abbrev pub schema_chains : File → List ℕ → List ℕ
+schema_chains f unused = chains_on f (schema_pages f unused) (minus unused (schema_pages f unused))
+
+-- the table after the schema's pages moved to their list
+abbrev pub after_tree : File → Table → Table
+after_tree f t = all_moved (schema_pages f (unused t)) SCHEMA_LIST t
+
+-- and then the overflow pages of its cells to theirs
 unfoldable pub after_schema : File → Table → Table
-after_schema f t =
-    all_moved (chains_on f (schema_pages f (unused t)) (minus (unused t) (schema_pages f (unused t)))) OVERFLOW_LIST
-    (all_moved (schema_pages f (unused t)) SCHEMA_LIST t)
+after_schema f t = all_moved (schema_chains f (unused t)) OVERFLOW_LIST (after_tree f t)
+
+-- `new` is `old` after the first of the schema's pages, however many, moved to their list, or after all of them and
+-- then the first of the overflow pages of its cells did
+abbrev pub SchemaFront : File → Table → Table → Type 0
+SchemaFront f old new = MovesFront (schema_pages f (unused old)) SCHEMA_LIST old new
+    ⊎ MovesFront (schema_chains f (unused old)) OVERFLOW_LIST (after_tree f old) new
 
 -- unused pages moved to the schema's list and then others to that of overflow pages, each once
 pub record SchemaMoves (old new : Table) : Type 0 where

@@ -6,7 +6,7 @@ ghost use Rattle.page_access.specs.Files.{file_of};
 ghost use Rattle.page_access.specs.Outside.{HasCauseOf, KeepsSource};
 ghost use Rattle.page_access.specs.declared.outside.ReadFault.TheVariants as faults;
 ghost use Rattle.page_lists.specs.Lists.{IsPartOf};
-ghost use Rattle.page_lists.specs.Table.{IsPartition, Moves, all_moved, unused};
+ghost use Rattle.page_lists.specs.Table.{IsPartition, Moves, MovesFront, all_moved, unused};
 ghost use Rattle.overflow_chain.specs.declared.TheConstants.{OVERFLOW_LIST};
 ghost use Rattle.page_walk.specs.Bounds.{ArePages};
 ghost use Rattle.page_walk.specs.Cells.{row_of};
@@ -16,7 +16,7 @@ ghost use Rattle.page_walk.specs.Rows.{rows_of};
 ghost use Rattle.page_walk.specs.Turns.{ReadsEach, chains_on, turns_on};
 ghost use Rattle.page_walk.specs.Walk.{kinds_of};
 ghost use Rattle.raw_schema.specs.Bounds.{IsSmallSchema};
-ghost use Rattle.raw_schema.specs.Schema.{ReadsChains, ReadsTwice, SchemaMoves, after_schema, bad_in, bad_rows, cells_in, entries_in, noted, schema_notes, schema_pages, schema_rows, schema_turns};
+ghost use Rattle.raw_schema.specs.Schema.{ReadsChains, ReadsTwice, SchemaFront, SchemaMoves, after_schema, bad_in, bad_rows, cells_in, entries_in, noted, schema_notes, schema_pages, schema_rows, schema_turns};
 
 use crate::SCHEMA_LIST;
 use crate::entries::sort_out;
@@ -43,7 +43,7 @@ pub struct RawSchema {
 
 /// Reads the schema: walks the tree of table pages at page 1, and then has its cells take their turns.
 /// The pages of the tree move to the list of the schema, their overflow pages to that of overflow pages.
-/// After an error some pages have moved.
+/// After an error the first of these moves, however many, are made.
 pub fn read_schema<S: Source>(
     alloc: Global,
     src: &mut S,
@@ -73,6 +73,9 @@ pub fn read_schema<S: Source>(
         (cells_in (schema_turns (file_of all geo.now) (unused table.old))))) }
     ensures table { OnOk result (IfSome (S.bytes src.old)
         (λ all. table.new ≡ after_schema (file_of all geo.now) table.old)) }
+    // at every exit
+    ensures front { IfSome (S.bytes src.old)
+        (λ all. SchemaFront (file_of all geo.now) table.old table.new) }
     ensures cause { HasCauseOf faults.Source (S.faults src.old) (S.faults src.new) result }
     ensures kept { KeepsSource S.bytes S.attached S.faults S.reads src.old src.new }
     ensures moves { SchemaMoves table.old table.new }
@@ -128,6 +131,9 @@ fn read_pages<S: Source>(
     ensures table { OnOk result (IfSome (S.bytes src.old) (λ all. table.new
         ≡ all_moved (chains_on (file_of all geo.now) pages.items (unused table.old))
         OVERFLOW_LIST table.old)) }
+    ensures front { IfSome (S.bytes src.old) (λ all. MovesFront
+        (chains_on (file_of all geo.now) pages.items (unused table.old))
+        OVERFLOW_LIST table.old table.new) }
     ensures cause { HasCauseOf faults.Source (S.faults src.old) (S.faults src.new) result }
     ensures kept { KeepsSource S.bytes S.attached S.faults S.reads src.old src.new }
     ensures moves { Moves OVERFLOW_LIST table.old table.new }

@@ -5,7 +5,7 @@ use Rattle.page_access.proofs.Keeps.{not_failed}
 use Rattle.page_lists.proofs.Uses.{Moves-append}
 use Rattle.page_walk.specs.InTurn.{turn_of}
 use Rattle.page_walk.specs.Turns.{ReadsEach}
-use Rattle.page_walk.proofs.InTurn.{at_err, reads_weaker, stepping_none, stepping_more, stepping_value, stepping_reads, stepping_full}
+use Rattle.page_walk.proofs.InTurn.{at_err, chains_front, reads_weaker, stepping_front, stepping_front_all, stepping_none, stepping_more, stepping_value, stepping_reads, stepping_full}
 use Rattle.page_walk.proofs.turns.read_turns.Goals as goal
 
 pub loop-page-init : goal.loop-page-init
@@ -75,3 +75,20 @@ returns-in_err-push-clause-full g c =
 
 pub returns-clause-value : goal.returns-clause-value
 returns-clause-value g c = stepping_value c.loop-page.invariant.stepping (drop_all c.loop-page.page-index c.args.pages.now (omega arith))
+
+pub returns-in_err-turn-clause-table_front : goal.returns-in_err-turn-clause-table_front
+returns-in_err-turn-clause-table_front g c =
+    chains_front _ c.args.geo.now c.args.pages.now 4 c.args.table.now c.turn_page.new.table
+    (stepping_front (get_or c.args.pages.now c.loop-page.page-index 0) (drop (c.loop-page.page-index + 1) c.args.pages.now) c.turn_page.new.table
+    c.loop-page.invariant.stepping (drop_more c.args.pages.now c.loop-page.page-index 0 c.loop-page-test.true) c.turn_page.ensures.table_front)
+
+pub returns-in_err-push-clause-table_front : goal.returns-in_err-push-clause-table_front
+returns-in_err-push-clause-table_front g c =
+    chains_front _ c.args.geo.now c.args.pages.now 4 c.args.table.now c.turn_page.new.table
+    (stepping_front (get_or c.args.pages.now c.loop-page.page-index 0) (drop (c.loop-page.page-index + 1) c.args.pages.now) c.turn_page.new.table
+    c.loop-page.invariant.stepping (drop_more c.args.pages.now c.loop-page.page-index 0 c.loop-page-test.true) c.turn_page.ensures.table_front)
+
+pub returns-clause-table_front : goal.returns-clause-table_front
+returns-clause-table_front g c =
+    chains_front _ c.args.geo.now c.args.pages.now 4 c.args.table.now c.loop-page.table
+    (stepping_front_all c.loop-page.invariant.stepping (drop_all c.loop-page.page-index c.args.pages.now (omega arith)))

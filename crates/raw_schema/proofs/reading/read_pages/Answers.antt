@@ -1,10 +1,8 @@
-use Rattle.std.proofs.Common.{◌≡◌, ◌+◌, ◌∙◌, List, ℕ, ap, length, map, refl, subst, arith, sym}
+use Rattle.std.proofs.Common.{◌∙◌, List, ℕ, ap, length, map, arith}
 use Rattle.std.proofs.lemmas.List.{length-map}
 use Rattle.std.specs.List.{flat_map}
 use Rattle.page_walk.specs.Cells.{Outcome}
 use Rattle.page_walk.specs.InTurn.{turn_of}
-use Rattle.page_walk.specs.Turns.{ReadsEach}
-use Rattle.page_walk.proofs.InTurn.{at_err, reads_weaker}
 use Rattle.raw_schema.specs.Schema.{bad_in, cells_in, entries_in, noted}
 use Rattle.raw_schema.proofs.Small.{schema_small}
 use Rattle.raw_schema.proofs.Turns.{evidence_of_turns, of_turns, table_of_turns, turns_few}

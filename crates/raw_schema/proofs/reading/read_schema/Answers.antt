@@ -8,7 +8,7 @@ use Rattle.overflow_chain.specs.declared.TheConstants.{OVERFLOW_LIST}
 use Rattle.page_walk.specs.Cells.{row_of}
 use Rattle.page_walk.specs.Turns.{chains_on, turns_on}
 use Rattle.raw_schema.specs.Schema.{after_schema, bad_in, bad_rows, cells_in, entries_in, noted, schema_notes, schema_rows}
-use Rattle.raw_schema.proofs.Tree.{at_tree, chains_read, no_chains, reads_at_err, reads_in_all}
+use Rattle.raw_schema.proofs.Tree.{at_tree, chains_read, front_of_chains, front_of_tree, no_chains, reads_at_err, reads_in_all}
 use Rattle.raw_schema.proofs.reading.read_schema.Goals as goal
 
 pub returns-in_err-pages-clause-reads : goal.returns-in_err-pages-clause-reads
@@ -48,6 +48,14 @@ returns-clause-table g c =
     at_tree c.read_pages.result _ _ c.args.geo.now _ _ _
     (λ s f ps u t. c.read_pages.new.table ≡ all_moved (chains_on f ps u) OVERFLOW_LIST t)
     c.walk_tree.ensures.kept.told c.in_ok-pages.ensures.value c.in_ok-pages.ensures.moved c.read_pages.ensures.table
+
+pub returns-in_err-pages-clause-front : goal.returns-in_err-pages-clause-front
+returns-in_err-pages-clause-front g c = front_of_tree _ c.args.geo.now c.args.table.now c.walk_tree.new.table c.walk_tree.ensures.front
+
+pub returns-clause-front : goal.returns-clause-front
+returns-clause-front g c =
+    front_of_chains _ _ c.args.geo.now _ _ _ c.read_pages.new.table
+    c.walk_tree.ensures.kept.told c.in_ok-pages.ensures.value c.in_ok-pages.ensures.moved c.read_pages.ensures.front
 
 pub returns-clause-reads : goal.returns-clause-reads
 returns-clause-reads g c =

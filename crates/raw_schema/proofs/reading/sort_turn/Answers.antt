@@ -1,4 +1,4 @@
-use Rattle.std.proofs.Common.{◌≡◌, ◌∙◌, ℕ, Result, Ok, Err, OnOk, List, [], ◌∷◌, ◌++◌, map, ap, subst}
+use Rattle.std.proofs.Common.{◌≡◌, ◌∙◌, Result, Ok, Err, OnOk, List, [], ◌∷◌, ◌++◌, map, ap, subst}
 use Rattle.std.specs.Prelude.{nat_lt, if◌then◌else◌}
 use Rattle.page_walk.specs.declared.outcomes.CellOutcome.{CellOutcome}
 use Rattle.page_walk.specs.declared.outcomes.TakenCell.{TakenCell}
@@ -6,7 +6,7 @@ use Rattle.page_walk.specs.declared.rows.PageNotes.{PageNotes}
 use Rattle.page_walk.specs.Cells.{Row, outcome_of, row_of}
 use Rattle.page_walk.specs.Rows.{rows_of, taken_in}
 use Rattle.page_walk.proofs.Sorting.{rows_seen}
-use Rattle.raw_schema.specs.Schema.{bad_in, entries_in}
+use Rattle.raw_schema.specs.Schema.{entries_in}
 use Rattle.raw_schema.proofs.Turns.{bad_appended}
 use Rattle.raw_schema.proofs.reading.sort_turn.Goals as goal
 

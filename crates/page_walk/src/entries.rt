@@ -1,10 +1,12 @@
 //! The payload and the record of an entry.
-ghost use Rattle.std.specs.Prelude.{◌≡◌, ◌≤◌, ◌+◌, ◌*◌, ◌-◌, length, map, IfOk, IfSome, IsErrOf, OnOk, Some, is_ok, option_to_list, if◌then◌else◌};
+ghost use Rattle.std.specs.Prelude.{◌≡◌, ◌≤◌, ◌+◌, ◌*◌, ◌-◌, List, Result, length, map, IfOk, IfSome, IsErrOf, OnOk, Some, is_ok, option_to_list, if◌then◌else◌};
 ghost use Rattle.page_access.specs.Files.{file_of};
 ghost use Rattle.page_access.specs.Outside.{HasCauseOf, KeepsSource};
 ghost use Rattle.page_access.specs.declared.outside.ReadFault.TheVariants as faults;
 ghost use Rattle.page_lists.specs.Table.{Moves, MovesFront, all_moved, unused};
-ghost use Rattle.record_core.specs.Record.{record_of};
+ghost use Rattle.record_core.specs.Record.{Gives, record_of};
+ghost use Rattle.record_core.specs.declared.faults.RecordFault.{RecordFault};
+ghost use Rattle.record_core.specs.declared.values.Value.{Value};
 ghost use Rattle.cell_reader.specs.Inside.{HasOverflow, IsInside, has_payload};
 ghost use Rattle.overflow_chain.specs.Turn.{Takes};
 ghost use Rattle.page_walk.specs.Bounds.{IsSmall};
@@ -17,7 +19,7 @@ use cell_reader::{CellView, Kind, PageShape};
 use overflow_chain::{ChainEnd, read_chain};
 use page_access::{Geometry, ReadFault, Source};
 use page_lists::PageTable;
-use record_core::{RecordFault, read_record};
+use record_core::{RecordFault, Value, read_record, take_record};
 use std::alloc::Global;
 
 // Whether the cells of a page have a payload.
@@ -68,19 +70,18 @@ fn read_rest<S: Source>(
     read_chain(alloc, src, geo, table, first, need, chain, payload)
 }
 
-// What becomes of a cell whose payload is whole.
+// What becomes of a cell whose payload is whole and was read so.
 fn judge(
-    alloc: Global,
     place: Place,
     rowid: Option<i64>,
     chain: Vec<u32>,
-    payload: &[u8],
+    read: Result<Vec<Value>, RecordFault>,
 ) -> Result<CellOutcome, ReadFault>
-    ensures value { IfOk result
-        (λ o. outcome_of o ≡ read_as place.page place.cell rowid chain.items (record_of payload.now)) }
+    ensures value { (wanted : Result (List Value) RecordFault) → Gives (λ v. v.items) read wanted
+        → IfOk result (λ o. outcome_of o ≡ read_as place.page place.cell rowid chain.items wanted) }
     ensures memory { IsErrOf result faults.Source → ⊥ }
 {
-    match read_record(alloc, payload) {
+    match read {
         Ok(fields) => Ok(CellOutcome::Taken(TakenCell {
             place,
             rowid,
@@ -133,7 +134,8 @@ fn take_entry<S: Source>(
 {
     let local = &page[view.local_start as usize..view.local_end as usize];
     let Some(first) = view.overflow else {
-        return judge(alloc, place, view.rowid, Vec::new(alloc), local);
+        let read = read_record(alloc, local);
+        return judge(place, view.rowid, Vec::new(alloc), read);
     };
     let mut chain = Vec::new(alloc);
     let mut payload = Vec::from_slice(alloc, local)?;
@@ -155,7 +157,7 @@ fn take_entry<S: Source>(
             chain,
         });
     }
-    judge(alloc, place, view.rowid, chain, &payload)
+    judge(place, view.rowid, chain, take_record(alloc, payload))
 }
 
 // What becomes of a cell at its turn; an accepted cell without a payload has no outcome.

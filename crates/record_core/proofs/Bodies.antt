@@ -8,7 +8,7 @@ use Rattle.record_core.specs.declared.values.Value.TheVariants.{Null, Whole, Rea
 use Rattle.record_core.specs.Record.{body_len, is_reserved, value_of}
 use Rattle.record_core.specs.Spelling.{IsWidth, IsNumber, IsBody}
 
-ne_from : (t k : ℕ) → eqb t k ≡ false → t ≡ k → ⊥
+pub ne_from : (t k : ℕ) → eqb t k ≡ false → t ≡ k → ⊥
 ne_from t k e f = let s : eqb t k ≡ true = eq-eqb t k f in let both : true ≡ false = sym s ∙ e in absurd cc
 
 -- the whole numbers

@@ -44,6 +44,7 @@ left_start types bodies h = left_from types bodies (types_in types) refl h
 
 -- one value more
 pub record Next (types bodies : List ℕ) (at from : ℕ) (values : List Value) (t n : ℕ) : Type 0 where
+  pub one : 1 ≤ n
   pub fits : from + body_len t ≤ length bodies
   pub next : Left types bodies (at + n) (from + body_len t) (values ++ value_of t (take (body_len t) (drop from bodies)) ∷ [])
 
@@ -56,6 +57,7 @@ left_next types bodies at from values t n l some e one inside =
     let sum : bodies_len l.left ≡ body_len t + bodies_len u.0 = ap bodies_len u.2 ∙ sum_by-cons body_len t u.0 in
     let v = value_of t (take (body_len t) (drop from bodies)) in
     record {
+      one = one;
       fits = omega (arith, l.fits);
       next = record {
         left = u.0;

@@ -1,4 +1,5 @@
 pub mod Again
+pub mod Apart
 pub mod Bodies
 pub mod Causes
 pub mod InTurn

@@ -3,8 +3,10 @@
 
 mod faults;
 mod fields;
+mod long;
 mod reading;
 mod spans;
+mod taking;
 mod values;
 mod writing;
 
@@ -12,6 +14,7 @@ pub use faults::RecordFault;
 pub use fields::{FieldSlice, Fields};
 pub use reading::{a_payload_spells_one_record, read_record};
 pub use spans::{RecordSpans, record_spans};
+pub use taking::take_record;
 pub use values::{Bytes, Value};
 pub use writing::{a_record_is_read_back, record_len, record_size, write_record};
 

@@ -1,11 +1,15 @@
 //! Reading a record.
 
-ghost use Rattle.std.specs.Prelude.{◌≡◌, ◌≤◌, ℕ, List, length, IfOk, IfErr, IsOk, IsErrOf, IsSomeAnd, ◌⊎◌};
+ghost use Rattle.std.specs.Prelude.{◌≡◌, ◌≤◌, ◌==◌, ℕ, List, length, IfOk, IfErr, IsOk, IsErrOf, IsSomeAnd, ◌⊎◌, if◌then◌else◌};
+ghost use Rattle.std.specs.Prelude.{Some};
 ghost use Rattle.record_core.specs.Record.{body_len, bodies_len, types_in, value_of, values_of, record_of, Gives};
 ghost use Rattle.record_core.specs.Faults.{IsCause};
 ghost use Rattle.record_core.specs.Spelling.{IsRecord};
+ghost use Rattle.record_core.specs.Apart.{has_long_at, without_long};
+ghost use Rattle.record_core.specs.declared.values.Value.TheVariants.{Null};
 
 use crate::faults::RecordFault;
+use crate::long::LongValue;
 use crate::spans::{body_len, read_layout};
 use crate::values::{Bytes, Value};
 use byteorder::{BigEndian, ByteOrder};
@@ -41,22 +45,23 @@ fn decode(alloc: Global, payload: &[u8]) -> Result<Vec<Value>, RecordFault>
     let layout = read_layout(payload)?;
     let types = &payload[layout.start..layout.spans.header];
     let bodies = &payload[layout.spans.header..];
-    match values(alloc, types, bodies, layout.spans.fields as usize) {
+    match values_but(alloc, types, bodies, layout.spans.fields as usize, None) {
         Ok(values) => Ok(values),
         Err(AllocError) => Err(RecordFault::Memory),
     }
 }
 
-// The values of the serial types that fill the bytes.
-fn values(
+// The values of the serial types that fill the bytes, with NULL in place of the long one.
+pub fn values_but(
     alloc: Global,
     types: &[u8],
     bodies: &[u8],
     fields: usize,
+    long: Option<LongValue>,
 ) -> Result<Vec<Value>, AllocError>
     requires { IsSomeAnd (types_in types.now) (λ ts. bodies_len ts ≤ length bodies.now) }
     ensures { IfOk result (λ v. (ts : List ℕ) → types_in types.now ≡ Some ts
-        → v.items ≡ values_of ts bodies.now) }
+        → v.items ≡ without_long long (values_of ts bodies.now)) }
 {
     let mut values = Vec::with_capacity(alloc, fields)?;
     let mut at = 0;
@@ -64,11 +69,33 @@ fn values(
     'types: while at < types.len() {
         let (kind, len) = read_varint(types, at).unwrap();
         let end = from + body_len(kind) as usize;
-        values.push(value_at(alloc, kind, &bodies[from..end])?)?;
+        let is_long = is_long_at(&long, values.len());
+        values.push(value_or_null(alloc, is_long, kind, &bodies[from..end])?)?;
         at += len;
         from = end;
     }
     Ok(values)
+}
+
+// Whether the long value has this number.
+fn is_long_at(long: &Option<LongValue>, field: usize) -> bool
+    ensures { result ≡ has_long_at long.now field }
+{
+    match long {
+        Some(value) => value.field == field,
+        None => false,
+    }
+}
+
+// The value that a serial type and its body stand for, or NULL where it is left out.
+fn value_or_null(alloc: Global, left_out: bool, kind: u64, body: &[u8]) -> Result<Value, AllocError>
+    requires { length body.now ≡ body_len kind }
+    ensures { IfOk result (λ v. v ≡ (if left_out then Null else value_of kind body.now)) }
+{
+    if left_out {
+        return Ok(Value::Null);
+    }
+    value_at(alloc, kind, body)
 }
 
 // The value that a serial type and its body stand for.
@@ -83,9 +110,22 @@ fn value_at(alloc: Global, kind: u64, body: &[u8]) -> Result<Value, AllocError>
         7 => Value::Real8(eight(body)),
         8 => Value::Whole(0),
         9 => Value::Whole(1),
-        _ if kind % 2 == 0 => Value::Blob(Bytes::copy_of(alloc, body)?),
-        _ => Value::Text(Bytes::copy_of(alloc, body)?),
+        _ => text_or_blob(kind, Vec::from_slice(alloc, body)?),
     })
+}
+
+// The text or the blob of these bytes, as the serial type says. Takes no memory.
+#[tactic(auto, unfolding(crate::specs::Record::value_of))]
+pub fn text_or_blob(kind: u64, bytes: Vec<u8>) -> Value
+    requires { 10 ≤ kind }
+    ensures { result ≡ value_of kind bytes.items }
+{
+    let bytes = Bytes::of(bytes);
+    if kind % 2 == 0 {
+        Value::Blob(bytes)
+    } else {
+        Value::Text(bytes)
+    }
 }
 
 // Eight bytes as an array.

@@ -39,6 +39,79 @@ fn a_number_and_a_text_are_read(rt: HostRuntime) -> Result<(), Fail> {
     Ok(())
 }
 
+// NULL, 0, 5, 1.5, a text of 40 bytes, a blob of two bytes and 'x', and a byte behind them.
+const LONG_TEXT: &[u8] = &[
+    0x08, 0x00, 0x08, 0x01, 0x07, 0x5d, 0x10, 0x0f, // the header
+    0x05, 0x3f, 0xf8, 0, 0, 0, 0, 0, 0, // 5 and 1.5
+    b'0', b'1', b'2', b'3', b'4', b'5', b'6', b'7', b'8', b'9', // the text
+    b'a', b'b', b'c', b'd', b'e', b'f', b'g', b'h', b'i', b'j', //
+    b'A', b'B', b'C', b'D', b'E', b'F', b'G', b'H', b'I', b'J', //
+    b'9', b'8', b'7', b'6', b'5', b'4', b'3', b'2', b'1', b'0', //
+    0xca, 0xfe, 0x78, 0x99,
+];
+
+fn are_of_long_text(values: &[Value]) -> bool {
+    match values {
+        [
+            Value::Null,
+            Value::Whole(0),
+            Value::Whole(5),
+            Value::Real8(real),
+            Value::Text(long),
+            Value::Blob(blob),
+            Value::Text(short),
+        ] => {
+            *real == [0x3f, 0xf8, 0, 0, 0, 0, 0, 0]
+                && same_bytes(long, b"0123456789abcdefghijABCDEFGHIJ9876543210")
+                && same_bytes(blob, &[0xca, 0xfe])
+                && same_bytes(short, b"x")
+        }
+        _ => false,
+    }
+}
+
+fn taken(rt: &HostRuntime, payload: &[u8]) -> Result<Vec<Value>, RecordFault> {
+    match Vec::from_slice(rt.alloc(), payload) {
+        Ok(payload) => take_record(rt.alloc(), payload),
+        Err(_) => Err(RecordFault::Memory),
+    }
+}
+
+#[test]
+fn a_long_text_among_short_values_is_read_and_taken(rt: HostRuntime) -> Result<(), Fail> {
+    let read = read_record(rt.alloc(), LONG_TEXT)
+        .ok()
+        .ok_or("seven values")?;
+    assert!(rt; are_of_long_text(&read));
+    let taken = taken(&rt, LONG_TEXT).ok().ok_or("the same")?;
+    assert!(rt; are_of_long_text(&taken));
+    Ok(())
+}
+
+#[test]
+fn a_long_blob_alone_is_taken(rt: HostRuntime) -> Result<(), Fail> {
+    let values = taken(&rt, &[0x02, 0x12, 0xca, 0xfe, 0xba])
+        .ok()
+        .ok_or("a blob")?;
+    assert!(rt;
+        matches!(values.as_slice(), [Value::Blob(blob)] if same_bytes(blob, &[0xca, 0xfe, 0xba]))
+    );
+    Ok(())
+}
+
+#[test]
+fn two_equal_texts_are_taken(rt: HostRuntime) -> Result<(), Fail> {
+    let values = taken(&rt, &[0x03, 0x0f, 0x0f, 0x78, 0x79])
+        .ok()
+        .ok_or("'x' and 'y'")?;
+    assert_eq!(rt; values.len(), 2);
+    assert!(rt; matches!(&values[0], Value::Text(text) if same_bytes(text, b"x")));
+    assert!(rt; matches!(&values[1], Value::Text(text) if same_bytes(text, b"y")));
+    assert!(rt; matches!(taken(&rt, &[0x02, 0x0a]), Err(RecordFault::Reserved)));
+    assert!(rt; matches!(taken(&rt, &[0x02, 0x0f]), Err(RecordFault::BodyShort)));
+    Ok(())
+}
+
 #[test]
 fn a_real_a_blob_and_a_null_are_read_and_copied(rt: HostRuntime) -> Result<(), Fail> {
     let payload = [

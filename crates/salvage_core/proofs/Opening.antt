@@ -2,7 +2,7 @@
 use Rattle.std.proofs.Common.{◌≡◌, ◌≤◌, ◌==◌, ℕ, ◌+◌, ◌/◌, Bool, true, false, List, length, Option, Some, None, Result, Ok, Err, refl, sym, subst, arith}
 use Rattle.std.specs.Prelude.{if◌then◌else◌, IfSome, is_none, nat_lt, option_map, unwrap_or}
 use Rattle.std.specs.Option.{option_or}
-use Rattle.page_access.specs.Files.{IsWhole}
+use Rattle.page_access.specs.Files.{FewReads, IsWhole}
 use Rattle.page_size.specs.Fields.{header_of}
 use Rattle.page_size.specs.Rule.{Finding, cut, finding, given_sizing, is_scored, rule}
 use Rattle.page_size.specs.Score.{ranking, winner}
@@ -17,7 +17,7 @@ use Rattle.input_pages.specs.declared.faults.InputFault.{InputFault}
 use Rattle.input_pages.specs.declared.faults.InputFault.TheVariants.{TooLarge}
 use Rattle.use_order.proofs.Ordered.{at_told}
 use Rattle.salvage_core.specs.Plan.{input_of}
-use Rattle.salvage_core.specs.Reads.{ReadsFew, most_by, most_reads, page_reads, score_reads}
+use Rattle.salvage_core.specs.Reads.{most_by, most_reads, page_reads, score_reads}
 use Rattle.salvage_core.specs.declared.options.Options.{Options}
 
 -- a read of the header, and those of the scores
@@ -87,7 +87,7 @@ few_opened o (Some all) a b read =
 gathered : (o : Options) (told told' : Option (List ℕ)) (i : Input) (a b c : ℕ) → told' ≡ told
     → IfSome told (λ all. FindsPages (Ok (Some i)) (input_of o all)) → IfSome told (λ all. IsWhole all i.found.geometry)
     → IfSome told (λ all. b ≤ a + 1 + (if is_scored all o.page_size o.reserved then length all / 256 else 0))
-    → ReadsFew told' i.found.geometry b c (page_reads i.found.geometry.pages + 1)
+    → FewReads told' i.found.geometry b c (page_reads i.found.geometry.pages + 1)
     → IfSome told (λ all. c ≤ a + most_reads o all)
 gathered o None told' i a b c same finds whole read more = tt
 gathered o (Some all) told' i a b c same finds whole read more =
@@ -99,7 +99,7 @@ gathered o (Some all) told' i a b c same finds whole read more =
 pub few_gathered : (o : Options) (told told' : Option (List ℕ)) (found : Option Input) (i : Input) (a b c : ℕ) → found ≡ Some i → told' ≡ told
     → IfSome told (λ all. FindsPages (Ok found) (input_of o all)) → IfSome told (λ all. IfSome found (λ input. IsWhole all input.found.geometry))
     → IfSome told (λ all. b ≤ a + 1 + (if is_scored all o.page_size o.reserved then length all / 256 else 0))
-    → ReadsFew told' i.found.geometry b c (page_reads i.found.geometry.pages + 1)
+    → FewReads told' i.found.geometry b c (page_reads i.found.geometry.pages + 1)
     → IfSome told (λ all. c ≤ a + most_reads o all)
 few_gathered o told told' found i a b c is same finds whole read more =
     gathered o told told' i a b c same

@@ -3,7 +3,7 @@ use Rattle.std.proofs.Common.{◌≡◌, ◌≤◌, ℕ, ◌+◌, ◌-◌, ◌*�
 use Rattle.std.specs.Prelude.{if◌then◌else◌, IfSome, nat_le}
 use Rattle.std.proofs.lemmas.Bool.Decides.{nat_tests}
 use Rattle.std.proofs.lemmas.List.FromFn.{length-range_with_len}
-use Rattle.page_access.specs.Files.{IsWhole}
+use Rattle.page_access.specs.Files.{FewReads, IsWhole}
 use Rattle.page_access.specs.declared.geometry.Geometry.{Geometry}
 use Rattle.page_lists.specs.Table.{Table, fresh, unused}
 use Rattle.page_walk.specs.Turns.{ReadsEach}
@@ -11,7 +11,7 @@ use Rattle.raw_schema.specs.Schema.{ReadsTwice}
 use Rattle.use_order.specs.Order.{UsesMove}
 use Rattle.use_order.proofs.Ordered.{at_told}
 use Rattle.use_order.proofs.Reading.{fewer}
-use Rattle.salvage_core.specs.Reads.{ReadsFew, page_reads}
+use Rattle.salvage_core.specs.Reads.{page_reads}
 
 -- what is at most either bound is at most that of the pages
 within : (n x : ℕ) → (n ≤ 64 → x ≤ 2 * n + 1) → x ≤ 4 * n + 1 → x ≤ page_reads n + 1
@@ -26,7 +26,7 @@ begun_len n t e = ap (λ (s : Table). length (unused s)) e ∙ length-range_with
 -- the reads of the survey and of the uses of the pages
 pub uses_read : (o o1 : Option (List ℕ)) (geo : Geometry) (t0 t1 : Table) (slots a b c m : ℕ) (Full Full' : Type 0)
     → t0 ≡ fresh geo.pages 6 → slots ≡ 64 → o1 ≡ o → m ≤ 1 → IfSome o (λ all. IsWhole all geo → b ≤ a + geo.pages) → (geo.pages ≤ slots → Full)
-    → ReadsTwice o1 geo t0 t1 b c m → (Full → Full' × ReadsEach o1 geo t0 t1 b c m) → ReadsFew o geo a c (page_reads geo.pages + 1)
+    → ReadsTwice o1 geo t0 t1 b c m → (Full → Full' × ReadsEach o1 geo t0 t1 b c m) → FewReads o geo a c (page_reads geo.pages + 1)
 uses_read None o1 geo t0 t1 slots a b c m Full Full' begun many same one survey has twice each = tt
 uses_read (Some all) o1 geo t0 t1 slots a b c m Full Full' begun many same one survey has twice each = λ whole.
     let here : b ≤ a + geo.pages = survey whole in
@@ -45,7 +45,7 @@ pub orphans_read : (o o1 o2 : Option (List ℕ)) (geo : Geometry) (t0 t1 t2 : Ta
     → t0 ≡ fresh geo.pages 6 → slots ≡ 64 → o1 ≡ o → o2 ≡ o → m ≤ 1 → IfSome o (λ all. IsWhole all geo → b ≤ a + geo.pages) → (geo.pages ≤ slots → Full)
     → UsesMove t0 t1 → ReadsTwice o1 geo t0 t1 b c 0 → (Full → Full' × ReadsEach o1 geo t0 t1 b c 0)
     → ReadsEach o2 geo t1 t2 c d (2 * length (unused t1) + m) → (Full' → Full'' × ReadsEach o2 geo t1 t2 c d m)
-    → ReadsFew o geo a d (page_reads geo.pages + 1)
+    → FewReads o geo a d (page_reads geo.pages + 1)
 orphans_read None o1 o2 geo t0 t1 t2 slots a b c d m Full Full' Full'' begun many e1 e2 one survey has moves twice each thrice again = tt
 orphans_read (Some all) o1 o2 geo t0 t1 t2 slots a b c d m Full Full' Full'' begun many e1 e2 one survey has moves twice each thrice again = λ whole.
     let here : b ≤ a + geo.pages = survey whole in

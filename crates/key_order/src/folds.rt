@@ -1,6 +1,6 @@
 //! Keys as their collations see them, in an order for maps and for sorting.
 
-ghost use Rattle.std.specs.Prelude.{◌≡◌, IfOk, refl};
+ghost use Rattle.std.specs.Prelude.{◌≡◌, ◌++◌, ◌∷◌, [], IfOk, OnOk, refl};
 ghost use Rattle.std.specs.Cmp.{partial_equiv_from_equiv, partial_order_from_total};
 ghost use Rattle.std.specs.Cmp.Lexicographic.{slice_cmp};
 ghost use Rattle.std.specs.Ordering.{as_partial_cmp, eq_by_cmp};
@@ -41,29 +41,44 @@ fn fold_text(alloc: Global, text: &[u8], coll: Coll) -> Result<Bytes, AllocError
 /// [`compare`](crate::compare) orders the keys that were folded.
 #[derive(Debug, Drop)]
 pub struct FoldedKey {
-    values: Vec<Value>,
+    // The first value stands apart: a key of one value takes no memory of its own, and most comparisons end at it.
+    first: Option<Value>,
+    rest: Vec<Value>,
 }
 
 impl Model for FoldedKey {
+    ghost use Rattle.std.specs.Prelude.{◌≡◌, ◌++◌, [], None};
+    ghost use Rattle.std.specs.Option.{option_to_list};
     ghost use Rattle.key_order.specs.Folds.{Folds};
 
     ghost Value = { Folds };
 
-    ghost view = { λ k. k.values.items };
+    ghost view = { λ k. option_to_list k.first ++ k.rest.items };
+
+    ghost invariant = { λ k. k.first ≡ None → k.rest.items ≡ [] };
 }
 
 impl FoldedKey {
-    /// The key of these values, each of which is folded. Takes no memory.
-    pub fn of(values: Vec<Value>) -> FoldedKey
-        ensures { result ≡ values.items }
+    /// A key without values. Takes no memory.
+    pub fn new(alloc: Global) -> FoldedKey
+        ensures { result ≡ [] }
     {
-        FoldedKey { values }
+        FoldedKey {
+            first: None,
+            rest: Vec::new(alloc),
+        }
     }
 
-    pub fn as_slice(&self) -> &[Value]
-        ensures { result.now ≡ self.now }
+    /// Appends a value, which is folded. Takes no memory for the first one.
+    pub fn push(&mut self, value: Value) -> Result<(), AllocError>
+        ensures value { OnOk result (self.new ≡ self.old ++ value ∷ []) }
     {
-        self.values.as_slice()
+        if self.first.is_none() {
+            self.first = Some(value);
+            return Ok(());
+        }
+        self.rest.push(value)?;
+        Ok(())
     }
 }
 
@@ -101,7 +116,15 @@ impl Ord for FoldedKey {
     ghost matches_eq = { λ _ _. refl };
 
     fn cmp(&self, other: &FoldedKey) -> Ordering {
-        folds_order(self.values.as_slice(), other.values.as_slice())
+        match (&self.first, &other.first) {
+            (Some(a), Some(b)) => match value_order(a, b, Coll::Binary) {
+                Ordering::Equal => folds_order(self.rest.as_slice(), other.rest.as_slice()),
+                order => order,
+            },
+            (Some(_), None) => Ordering::Greater,
+            (None, Some(_)) => Ordering::Less,
+            (None, None) => Ordering::Equal,
+        }
     }
 }
 

@@ -140,17 +140,16 @@ fn reals_and_texts_with_a_zero_byte_may_have_no_order(rt: HostRuntime) -> Result
 
 // The folded key of one value.
 fn folded(rt: &HostRuntime, value: &Value, coll: Coll) -> Result<FoldedKey, AllocError> {
-    let mut values = Vec::new(rt.alloc());
-    values.push(fold(rt.alloc(), value, coll)?)?;
-    Ok(FoldedKey::of(values))
+    let mut key = FoldedKey::new(rt.alloc());
+    key.push(fold(rt.alloc(), value, coll)?)?;
+    Ok(key)
 }
 
 #[test]
 fn folded_keys_need_no_collation(rt: HostRuntime) -> Result<(), Fail> {
     let a = folded(&rt, &text(&rt, b"aBC\xc4\0")?, Coll::NoCase)?;
-    assert!(rt;
-        matches!(a.as_slice().first(), Some(Value::Text(t)) if t.as_slice() == b"abc\xc4\0".as_slice())
-    );
+    assert!(rt; a == folded(&rt, &text(&rt, b"abc\xc4\0")?, Coll::Binary)?);
+    assert!(rt; a != folded(&rt, &text(&rt, b"abc\xc4")?, Coll::Binary)?);
     let b = folded(&rt, &text(&rt, b"abc ")?, Coll::Binary)?;
     let c = folded(&rt, &text(&rt, b"abc  ")?, Coll::RTrim)?;
     assert_eq!(rt; b.cmp(&c), Ordering::Greater);
@@ -161,9 +160,22 @@ fn folded_keys_need_no_collation(rt: HostRuntime) -> Result<(), Fail> {
         Coll::Binary,
     )?;
     assert_eq!(rt; real.cmp(&c), Ordering::Greater);
-    assert_eq!(rt;
-        FoldedKey::of(Vec::new(rt.alloc())).cmp(&real),
-        Ordering::Less
-    );
+    assert_eq!(rt; FoldedKey::new(rt.alloc()).cmp(&real), Ordering::Less);
+    assert_eq!(rt; real.cmp(&FoldedKey::new(rt.alloc())), Ordering::Greater);
+    Ok(())
+}
+
+#[test]
+fn folded_keys_with_one_first_value_are_told_apart_by_the_next(
+    rt: HostRuntime,
+) -> Result<(), Fail> {
+    let short = folded(&rt, &Value::Whole(7), Coll::Binary)?;
+    let mut low = folded(&rt, &Value::Whole(7), Coll::Binary)?;
+    low.push(Value::Null)?;
+    let mut high = folded(&rt, &Value::Whole(7), Coll::Binary)?;
+    high.push(Value::Whole(-1))?;
+    assert_eq!(rt; low.cmp(&high), Ordering::Less);
+    assert_eq!(rt; high.cmp(&low), Ordering::Greater);
+    assert_eq!(rt; short.cmp(&low), Ordering::Less);
     Ok(())
 }

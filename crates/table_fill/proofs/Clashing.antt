@@ -1,15 +1,14 @@
 -- Which rows clash, one way and back, and when a row clashes with none.
-use Rattle.std.proofs.Common.{◌≡◌, ◌⊎◌, inl, inr, refl, sym, ap, subst, ◌∙◌, ℕ, Bool, true, false, not, ◌&&◌, ◌||◌, if◌then◌else◌, Option, Some, None, List, [], ◌∷◌, ◌++◌, map}
+use Rattle.std.proofs.Common.{◌≡◌, inl, inr, refl, ap, ◌∙◌, ℕ, Bool, true, false, not, ◌&&◌, ◌||◌, Option, Some, None, List, [], ◌∷◌}
 use Rattle.std.specs.List.{AllByRecursion, list_any}
 use Rattle.std.proofs.lemmas.Bool.{cases_Bool, or_from, or_parts}
 use Rattle.key_order.specs.Totals.{folds_alike}
-use Rattle.record_core.specs.declared.values.Value.{Value}
 use Rattle.table_shape.specs.declared.keys.KeyPart.{KeyPart}
 use Rattle.table_shape.specs.Keys.{KeyParts, Keys, StoredRow, clash, clash_by, fits, has_null, key_of, same_key}
 use Rattle.page_walk.specs.declared.outcomes.Place.{Place}
 use Rattle.page_walk.specs.Cells.{Row}
 use Rattle.table_fill.specs.declared.fates.Fate.{Fate}
-use Rattle.table_fill.specs.declared.fates.Fate.TheVariants.{Clash, Misfit}
+use Rattle.table_fill.specs.declared.fates.Fate.TheVariants.{Misfit}
 use Rattle.table_fill.specs.Fates.{clash_among, clash_in, clash_or, fate_of, first_clash, held, place_of, place_where, same_among}
 use Rattle.table_fill.proofs.Inserting.{all_both, all_map}
 

@@ -1,6 +1,6 @@
 -- The entries of a key rise strictly, one for each row.
-use Rattle.std.proofs.Common.{◌≡◌, ◌<◌, ◌≤◌, ◌⊎◌, inl, inr, refl, sym, ap, subst, ◌∙◌, ℕ, zero, suc, ◌+◌, ◌-◌, ◌==◌, arith, Bool, true, false, not, ◌&&◌, ◌||◌, if◌then◌else◌, Option, Some, None, List, [], ◌∷◌, ◌++◌, length, get_or, map, eq-eqb, eqb-true, ltb-true, ltb-false}
-use Rattle.std.specs.Prelude.{filter, nat_eq, nat_lt, position}
+use Rattle.std.proofs.Common.{◌≡◌, ◌<◌, ◌≤◌, inl, inr, refl, sym, ap, subst, ◌∙◌, ℕ, ◌==◌, arith, Bool, true, false, not, ◌&&◌, if◌then◌else◌, Option, Some, None, List, [], ◌∷◌, ◌++◌, length, get_or, map, eq-eqb, eqb-true, ltb-false}
+use Rattle.std.specs.Prelude.{filter, nat_lt, position}
 use Rattle.std.specs.Cmp.Lexicographic.{slice_cmp}
 use Rattle.std.specs.List.{AllByRecursion, Contains, IsDistinct, list_any, position_or_len}
 use Rattle.std.specs.Ordering.{is_eq, ordering_then}
@@ -10,13 +10,12 @@ use Rattle.std.proofs.lemmas.Bool.{cases_Bool, or_parts, true≢false}
 use Rattle.std.proofs.lemmas.List.Sums.{fails_before_first}
 use Rattle.std.proofs.lemmas.List.Quantifiers.{position-Some}
 use Rattle.key_order.specs.Order.{folded, value_cmp}
-use Rattle.record_core.specs.declared.values.Value.{Value}
 use Rattle.table_shape.specs.declared.keys.KeyPart.{KeyPart}
 use Rattle.table_shape.specs.declared.keys.Spot.{Spot}
 use Rattle.table_shape.specs.declared.keys.Spot.TheVariants.{Rowid, Field}
-use Rattle.table_shape.specs.Entries.{entry_parts, follows, in_order, is_field}
-use Rattle.table_shape.specs.Keys.{AreRows, KeyParts, Keys, StoredRow, clash, clash_by, first_of, is_alias, key_of, keys_of, part_of, parts_of, rowid_part, same_key, spot_of, value_at}
-use Rattle.table_shape.specs.Shape.{IsShape, KeyColumns, Shape, coll_of, place_among, stored_at}
+use Rattle.table_shape.specs.Entries.{entry_parts, follows, is_field}
+use Rattle.table_shape.specs.Keys.{AreRows, StoredRow, clash, clash_by, first_of, is_alias, key_of, keys_of, part_of, parts_of, rowid_part, same_key, spot_of, value_at}
+use Rattle.table_shape.specs.Shape.{IsShape, KeyColumns, Shape, place_among, stored_at}
 use Rattle.table_fill.specs.Laws.{RiseOnce}
 use Rattle.table_fill.proofs.Inserting.{all_map}
 use Rattle.table_fill.proofs.Named.{has_first, has_next}

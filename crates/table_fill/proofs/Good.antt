@@ -1,22 +1,21 @@
 -- The rows are those of a well-formed table.
-use Rattle.std.proofs.Common.{◌≡◌, refl, sym, ap, subst, ◌∙◌, Bool, true, false, not, ◌&&◌, if◌then◌else◌, Option, Some, None, List, [], ◌∷◌, ◌++◌, map, inl, inr}
+use Rattle.std.proofs.Common.{◌≡◌, refl, sym, ap, subst, ◌∙◌, Bool, true, false, not, ◌&&◌, Some, None, List, [], ◌∷◌, ◌++◌, map, inl, inr}
 use Rattle.std.specs.Cmp.Lexicographic.{slice_cmp}
 use Rattle.std.specs.List.{AllByRecursion, IsDistinct}
 use Rattle.std.specs.List.Sorted.{IsPermutation, IsStrictlySortedBy}
 use Rattle.std.proofs.lemmas.Bool.{cases_Bool, or_parts}
 use Rattle.std.proofs.lemmas.List.Sorted.{IsPermutation-append_left, IsPermutation-map, IsPermutation-trans}
-use Rattle.std.proofs.lemmas.Map.Keys.{IsDistinct-IsPermutation, IsDistinct-cons, IsDistinct-head, IsDistinct-tail}
+use Rattle.std.proofs.lemmas.Map.Keys.{IsDistinct-IsPermutation}
 use Rattle.std.specs.List.{list_any}
 use Rattle.key_order.specs.Order.{value_cmp}
-use Rattle.record_core.specs.declared.values.Value.{Value}
 use Rattle.table_shape.specs.Entries.{in_order}
-use Rattle.table_shape.specs.Keys.{AreRows, Keys, KeyParts, StoredRow, clash, clash_by, fits, key_of, orderable_row, same_key}
+use Rattle.table_shape.specs.Keys.{AreRows, Keys, clash, clash_by, fits, key_of, orderable_row, same_key}
 use Rattle.page_walk.specs.declared.outcomes.Place.{Place}
 use Rattle.page_walk.specs.Cells.{Row}
-use Rattle.table_fill.specs.Fates.{Left, Sorted, first_unordered, held, place_of, row_key, rows_of, sorted_of}
-use Rattle.table_fill.proofs.Cells.{AreKept, kept_good, kept_once}
+use Rattle.table_fill.specs.Fates.{Left, first_unordered, held, place_of, row_key, rows_of, sorted_of}
+use Rattle.table_fill.proofs.Cells.{kept_good, kept_once}
 use Rattle.table_fill.proofs.Clashing.{clash_back}
-use Rattle.table_fill.proofs.Inserting.{all_map, all_moved, all_of_map}
+use Rattle.table_fill.proofs.Inserting.{all_moved, all_of_map}
 use Rattle.table_fill.proofs.Ordering.{Ordered, keys_are, ordered, same_by}
 
 -- what differs by one test differs by another

@@ -1,18 +1,16 @@
 -- The fate of each cell that is no row.
-use Rattle.std.proofs.Common.{◌≡◌, ◌⊎◌, ◌<◌, inl, inr, refl, sym, ap, subst, ◌∙◌, ℕ, zero, suc, ◌+◌, arith, Bool, true, false, if◌then◌else◌, Option, Some, None, List, [], ◌∷◌, ◌++◌, length, get_or, map, ◌&&◌, ltb-true}
+use Rattle.std.proofs.Common.{◌≡◌, ◌⊎◌, ◌<◌, inl, inr, refl, sym, ap, subst, ◌∙◌, ℕ, zero, suc, arith, Bool, true, false, Option, Some, None, List, [], ◌∷◌, ◌++◌, length, get_or, map, ◌&&◌, ltb-true}
 use Rattle.std.specs.Prelude.{nat_lt}
 use Rattle.std.specs.List.{AllByRecursion, Contains}
-use Rattle.std.specs.List.Sorted.{IsPermutation}
 use Rattle.std.proofs.lemmas.Bool.{cases_Bool, true≢false}
 use Rattle.std.proofs.lemmas.List.Sorted.{Contains-permutation}
-use Rattle.table_shape.specs.declared.keys.KeyPart.{KeyPart}
 use Rattle.table_shape.specs.Keys.{KeyParts, Keys, StoredRow, clash_by, fits, keys_of, parts_of, same_key}
 use Rattle.table_shape.specs.Shape.{IsShape, KeyColumns, Shape, rises}
 use Rattle.page_walk.specs.declared.outcomes.Place.{Place}
 use Rattle.page_walk.specs.Cells.{Row}
 use Rattle.table_fill.specs.declared.fates.Fate.{Fate}
 use Rattle.table_fill.specs.declared.fates.Fate.TheVariants.{Clash, Misfit}
-use Rattle.table_fill.specs.Fates.{Left, Sorted, clash_among, clash_in, clash_or, fate_of, first_clash, held, left_row, nothing, place_of, place_where, rows_of, same_among, sorted_of, with_cell, with_fate}
+use Rattle.table_fill.specs.Fates.{Left, Sorted, clash_among, clash_in, clash_or, fate_of, first_clash, held, left_row, place_of, place_where, rows_of, same_among, sorted_of, with_cell}
 use Rattle.table_fill.specs.Laws.{AreRising, ClashBy, IsClash, IsFate}
 use Rattle.table_fill.proofs.Cells.{by_fate, sorted_has}
 use Rattle.table_fill.proofs.Clashing.{where_none}

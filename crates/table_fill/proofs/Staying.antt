@@ -1,20 +1,19 @@
 -- Rows of a well-formed table, found in any order, are its rows.
-use Rattle.std.proofs.Common.{◌≡◌, ◌⊎◌, inl, inr, refl, sym, ap, subst, ◌∙◌, Bool, true, false, not, ◌&&◌, if◌then◌else◌, Option, Some, None, List, [], ◌∷◌, ◌++◌, map, append-nil}
+use Rattle.std.proofs.Common.{◌≡◌, ◌⊎◌, inl, inr, refl, sym, ap, subst, ◌∙◌, Bool, true, false, ◌&&◌, None, List, [], ◌∷◌, ◌++◌, map, append-nil}
 use Rattle.std.specs.Cmp.Lexicographic.{slice_cmp}
 use Rattle.std.specs.List.{AllByRecursion, IsDistinct}
 use Rattle.std.specs.List.Sorted.{IsPermutation, IsStrictlySortedBy}
 use Rattle.std.specs.Ordering.{ordering_reverse}
-use Rattle.std.specs.declared.cmp.Ordering.{Ordering}
-use Rattle.std.specs.declared.cmp.Ordering.TheVariants.{Less, Equal, Greater}
-use Rattle.std.proofs.lemmas.List.Sorted.{IsPermutation-append_comm, IsPermutation-map, IsPermutation-middle, IsPermutation-refl, IsPermutation-sym, IsPermutation-trans, length_permutation}
+use Rattle.std.specs.declared.cmp.Ordering.TheVariants.{Less}
+use Rattle.std.proofs.lemmas.List.Sorted.{IsPermutation-map, IsPermutation-middle, IsPermutation-refl, IsPermutation-sym, IsPermutation-trans}
 use Rattle.std.proofs.lemmas.Map.Keys.{IsDistinct-IsPermutation, IsDistinct-head, IsDistinct-tail, sorted_head, sorted_tail}
 use Rattle.key_order.specs.Order.{value_cmp}
 use Rattle.key_order.specs.Totals.{folds_total}
 use Rattle.record_core.specs.declared.values.Value.{Value}
 use Rattle.table_shape.specs.Entries.{in_order}
-use Rattle.table_shape.specs.Keys.{AreRows, Keys, StoredRow, clash, fits, key_of, orderable_row}
+use Rattle.table_shape.specs.Keys.{AreRows, Keys, clash, fits, key_of, orderable_row}
 use Rattle.page_walk.specs.Cells.{Row}
-use Rattle.table_fill.specs.Fates.{Left, Sorted, fate_of, first_unordered, held, nothing, row_key, rows_of, sorted_of, with_cell, with_cells, with_fate}
+use Rattle.table_fill.specs.Fates.{Sorted, fate_of, first_unordered, held, nothing, row_key, rows_of, sorted_of, with_cells, with_fate}
 use Rattle.table_fill.specs.Laws.{Stays}
 use Rattle.table_fill.proofs.Clashing.{clash_back, is_kept}
 use Rattle.table_fill.proofs.Good.{keys_differ, map_both}

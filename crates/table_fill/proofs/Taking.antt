@@ -1,32 +1,31 @@
 -- The maps of a run answer what the definition says of the kept rows.
-use Rattle.std.proofs.Common.{◌≡◌, refl, sym, ap, subst, ◌∙◌, ℕ, zero, suc, Bool, true, false, not, ◌&&◌, cond, if◌then◌else◌, Option, Some, None, option_map, List, [], ◌∷◌, ◌++◌, length, map, inl, inr, ◌+◌, ◌<◌, get_or, arith}
+use Rattle.std.proofs.Common.{◌≡◌, refl, sym, ap, subst, ◌∙◌, ℕ, zero, suc, Bool, true, false, not, ◌&&◌, cond, if◌then◌else◌, Option, Some, None, option_map, List, [], ◌∷◌, ◌++◌, length, map, inl, inr, ◌+◌, ◌<◌, get_or, arith, take, take-add, drop}
 use Rattle.std.specs.Prelude.{slice_set}
 use Rattle.std.specs.Map.{lookup}
-use Rattle.std.specs.BTreeMap.{BTreeMap, get, insert_entry, is_at}
+use Rattle.std.specs.BTreeMap.{get, insert_entry, is_at}
 use Rattle.std.specs.Cmp.Lexicographic.{slice_cmp}
 use Rattle.std.specs.List.{AllByRecursion}
 use Rattle.std.specs.Ordering.{is_eq, match_ordering}
 use Rattle.std.specs.declared.cmp.Ordering.{Ordering}
 use Rattle.std.specs.declared.cmp.Ordering.TheVariants.{Less, Equal, Greater}
 use Rattle.std.proofs.lemmas.Bool.{cases_Bool}
+use Rattle.std.proofs.lemmas.List.{append-nil, drop-drop}
 use Rattle.key_order.specs.Folds.{Folds}
 use Rattle.key_order.specs.Order.{value_cmp}
-use Rattle.record_core.specs.declared.values.Value.{Value}
 use Rattle.table_shape.specs.declared.keys.KeyPart.{KeyPart}
-use Rattle.table_shape.specs.declared.keys.KeyPlan.{KeyPlan}
 use Rattle.table_shape.specs.Entries.{in_order}
 use Rattle.table_shape.specs.Keys.{KeyParts, Keys, StoredRow, clash_by, fits, has_null, key_of, parts_seen, same_key}
 use Rattle.page_walk.specs.declared.outcomes.Place.{Place}
 use Rattle.page_walk.specs.declared.outcomes.TakenCell.{TakenCell}
 use Rattle.page_walk.specs.Cells.{Row, row_of}
+use Rattle.table_fill.specs.declared.chooses.CellKeys.{CellKeys}
 use Rattle.table_fill.specs.declared.chooses.Filling.{Filling}
-use Rattle.table_fill.specs.declared.fates.Fate.{Fate}
-use Rattle.table_fill.specs.declared.fates.Fate.TheVariants.{Clash, Misfit}
+use Rattle.table_fill.specs.declared.fates.Fate.TheVariants.{Misfit}
 use Rattle.table_fill.specs.declared.fates.LeftCell.{LeftCell}
 use Rattle.table_fill.specs.declared.maps.KeyMap.{KeyMap}
 use Rattle.table_fill.specs.Chosen.{AreSorted, left_seen}
-use Rattle.table_fill.specs.Fates.{Left, Sorted, clash_among, clash_in, clash_or, fate_of, first_clash, first_unordered, held, left_row, nothing, place_of, place_where, row_key, same_among, sorted_of, with_cell, with_cells, with_fate}
-use Rattle.table_fill.specs.Maps.{Added, AddedTo, Holds, Shows, found_among, found_first, found_in, has_key, place_at, place_with, row_at}
+use Rattle.table_fill.specs.Fates.{Left, Sorted, clash_among, clash_in, clash_or, fate_of, first_unordered, held, nothing, place_of, place_where, row_key, same_among, sorted_of, with_cell, with_cells, with_fate}
+use Rattle.table_fill.specs.Maps.{AddedBy, AddedByAll, AreKeysOf, Holds, Shows, clash_by_keys, found_by, has_key, key_in, keys_in, place_at, place_by, place_with, row_at}
 
 -- ---- looking up
 
@@ -48,10 +47,10 @@ place_is None = refl
 place_is (Some t) = refl
 
 first_is : (t : Keys) (s : Sorted) (f : Filling) (r : Row) → Shows t s f
-    → found_first t.first f.rows r ≡ same_among t.first s.kept (held r)
+    → option_map (λ c. c.place) (get (slice_cmp value_cmp) f.rows (row_key t r)) ≡ same_among t.first s.kept (held r)
 first_is t s f r sh =
-    place_is (get (slice_cmp value_cmp) f.rows (key_of t.first (held r)))
-    ∙ ap (option_map place_of) (sh.first (key_of t.first (held r)))
+    place_is (get (slice_cmp value_cmp) f.rows (row_key t r))
+    ∙ ap (option_map place_of) (sh.first (row_key t r))
     ∙ same_is t.first s.kept (held r)
 
 -- two tests that agree find the same row
@@ -81,37 +80,36 @@ found_place parts kept row h = where_same (has_key parts (key_of parts row)) (λ
     (λ k. ap (λ b. not (has_null parts (held k)) && (not b && same_key parts (held k) row)) (sym h)) kept
 
 found_is : (kept : List Row) (m : KeyMap) (r : Row) → Holds kept m
-    → found_in m r ≡ clash_among m.plan.now.parts.items kept (held r)
+    → place_by m (key_in m r) ≡ clash_among m.plan.now.parts.items kept (held r)
 found_is kept m r h =
     let parts = m.plan.now.parts.items in
-    let answer : Option Place = get (slice_cmp value_cmp) m.rows (key_of parts (held r)) in
+    let key : Option Folds = Some (key_of parts (held r)) in
     elim (cases_Bool (has_null parts (held r))) [
-      | inl some ↦ ap (λ (b : Bool). if b then None else answer) some ∙ null_none parts kept (held r) some
-      | inr none ↦ ap (λ (b : Bool). if b then None else answer) none ∙ h (key_of parts (held r)) ∙ found_place parts kept (held r) none
+      | inl some ↦ ap (λ (b : Bool). place_by m (if b then None else key)) some ∙ null_none parts kept (held r) some
+      | inr none ↦ ap (λ (b : Bool). place_by m (if b then None else key)) none ∙ h (key_of parts (held r)) ∙ found_place parts kept (held r) none
     ]
 
 -- so are the maps, one after another
 among_is : (kept : List Row) (maps : List KeyMap) (r : Row) → AllByRecursion (Holds kept) maps
-    → found_among maps r ≡ clash_in (map (λ m. parts_seen m.plan.now) maps) kept (held r)
+    → found_by maps (keys_in maps r) ≡ clash_in (map (λ m. parts_seen m.plan.now) maps) kept (held r)
 among_is kept [] r h = refl
 among_is kept (m ∷ maps) r h =
-    ap (λ o. clash_or o m.plan.now.number (found_among maps r)) (found_is kept m r h.0)
+    ap (λ o. clash_or o m.plan.now.number (found_by maps (keys_in maps r))) (found_is kept m r h.0)
     ∙ ap (clash_or (clash_among m.plan.now.parts.items kept (held r)) m.plan.now.number) (among_is kept maps r h.1)
 
 pub fate_misfit : (t : Keys) (kept : List Row) (r : Row) → fits t (held r) ≡ false → Some Misfit ≡ fate_of t kept r
 fate_misfit t kept r e = rw e refl
 
-pub fate_first : (t : Keys) (s : Sorted) (f : Filling) (r : Row) (p : Place) → Shows t s f → fits t (held r) ≡ true
-    → Some p ≡ found_first t.first f.rows r → Some (Clash p 0) ≡ fate_of t s.kept r
-fate_first t s f r p sh e found =
-    rw e (ap (λ o. clash_or o 0 (clash_in t.keys s.kept (held r))) (found ∙ first_is t s f r sh))
-
-pub fate_rest : (t : Keys) (s : Sorted) (f : Filling) (r : Row) → Shows t s f → fits t (held r) ≡ true
-    → None ≡ found_first t.first f.rows r → found_among f.maps.items r ≡ fate_of t s.kept r
-fate_rest t s f r sh e found =
-    rw e (among_is s.kept f.maps.items r sh.maps
-    ∙ ap (λ ks. clash_in ks s.kept (held r)) sh.keys
-    ∙ ap (λ o. clash_or o 0 (clash_in t.keys s.kept (held r))) (found ∙ first_is t s f r sh))
+-- the fate of a cell that fits is what all maps answer for its keys
+pub fate_is : (t : Keys) (s : Sorted) (f : Filling) (r : Row) (k : CellKeys) → Shows t s f → fits t (held r) ≡ true
+    → AreKeysOf t f.maps.items r k → clash_by_keys f k ≡ fate_of t s.kept r
+fate_is t s f r k sh e keys =
+    rw e (ap (λ (q : Folds). clash_or (option_map (λ c. c.place) (get (slice_cmp value_cmp) f.rows q)) 0
+    (found_by f.maps.items k.others.items)) keys.first
+    ∙ ap (λ o. clash_or o 0 (found_by f.maps.items k.others.items)) (first_is t s f r sh)
+    ∙ ap (λ qs. clash_or (same_among t.first s.kept (held r)) 0 (found_by f.maps.items qs)) keys.others
+    ∙ ap (clash_or (same_among t.first s.kept (held r)) 0) (among_is s.kept f.maps.items r sh.maps
+    ∙ ap (λ ks. clash_in ks s.kept (held r)) sh.keys))
 
 -- ---- one row more
 
@@ -128,14 +126,24 @@ insert_seen {K} {X} {Y} cmp f (e ∷ es) k v = at_head (cmp k e.0) (insert_seen 
     at_head Equal h = refl
     at_head Greater h = ap (λ (xs : List (K × Y)). (e.0, f e.1) ∷ xs) h
 
--- the maps hold one row more
-holds_more : (kept : List Row) (r : Row) (m w : KeyMap) → Added r m w → Holds kept m → Holds (r ∷ kept) w
-holds_more kept r m w a h key =
-    a.rows key
-    ∙ ap (place_with m.plan.now.parts.items r key) (h key)
-    ∙ ap (λ p. place_with p.now.parts.items r key (place_at p.now.parts.items kept key)) (sym a.plan)
+-- a row is found by its key where none of its fields is NULL
+with_key : (none : Bool) (key q : Folds) (place : Place) (rest : Option Place)
+    → place_with (if none then None else Some key) place q rest
+    ≡ (if not none && is_eq (slice_cmp value_cmp key q) then Some place else rest)
+with_key true key q place rest = refl
+with_key false key q place rest = refl
 
-all_hold_more : (kept : List Row) (r : Row) (ms ws : List KeyMap) → AddedTo r (length ms) ms ws
+-- the maps hold one row more
+holds_more : (kept : List Row) (r : Row) (m w : KeyMap) → AddedBy (key_in m r) (place_of r) m w → Holds kept m
+    → Holds (r ∷ kept) w
+holds_more kept r m w a h q =
+    let parts = m.plan.now.parts.items in
+    a.rows q
+    ∙ ap (place_with (key_in m r) (place_of r) q) (h q)
+    ∙ with_key (has_null parts (held r)) (key_of parts (held r)) q (place_of r) (place_at parts kept q)
+    ∙ ap (λ p. place_at p.now.parts.items (r ∷ kept) q) (sym a.plan)
+
+all_hold_more : (kept : List Row) (r : Row) (ms ws : List KeyMap) → AddedByAll (keys_in ms r) (place_of r) ms ws
     → AllByRecursion (Holds kept) ms → AllByRecursion (Holds (r ∷ kept)) ws
 all_hold_more kept r [] [] a h = tt
 all_hold_more kept r [] (w ∷ ws) a h = absurd a
@@ -143,7 +151,7 @@ all_hold_more kept r (m ∷ ms) [] a h = absurd a
 all_hold_more kept r (m ∷ ms) (w ∷ ws) a h =
     (holds_more kept r m w a.0 h.0, all_hold_more kept r ms ws a.1 h.1)
 
-same_keys : (r : Row) (ms ws : List KeyMap) → AddedTo r (length ms) ms ws
+same_keys : (r : Row) (ms ws : List KeyMap) → AddedByAll (keys_in ms r) (place_of r) ms ws
     → map (λ (m : KeyMap). parts_seen m.plan.now) ws ≡ map (λ (m : KeyMap). parts_seen m.plan.now) ms
 same_keys r [] [] a = refl
 same_keys r [] (w ∷ ws) a = absurd a
@@ -155,7 +163,7 @@ same_keys r (m ∷ ms) (w ∷ ws) a =
 -- what a run shows with one row more
 pub shows_kept : (t : Keys) (s : Sorted) (old : Filling) (maps : List KeyMap) (new : Filling) (cell : TakenCell) (key : Folds)
     → Shows t s old → key ≡ row_key t (row_of cell)
-    → AddedTo (row_of cell) (length old.maps.items) old.maps.items maps → new.maps.items ≡ maps
+    → AddedByAll (keys_in old.maps.items (row_of cell)) cell.place old.maps.items maps → new.maps.items ≡ maps
     → new.rows.entries ≡ insert_entry (slice_cmp value_cmp) old.rows.entries key cell
     → ((q : Folds) → get (slice_cmp value_cmp) new.rows q
     ≡ cond (is_at (slice_cmp value_cmp key) q) (Some cell) (get (slice_cmp value_cmp) old.rows q))
@@ -216,23 +224,55 @@ taking_end t all old now h s sh = let w = h s sh in subst (λ (v : Sorted). Show
 
 -- ---- maps, one after another
 
-pub added_start : (r : Row) (ms : List KeyMap) → AddedTo r 0 ms ms
-added_start r [] = tt
-added_start r (m ∷ ms) = (refl, added_start r ms)
+pub added_start : (ks : List (Option Folds)) (p : Place) (ms : List KeyMap) → AddedByAll (take 0 ks) p ms ms
+added_start ks p [] = tt
+added_start ks p (m ∷ ms) = (refl, added_start ks p ms)
 
-added_suc : (r : Row) (i : ℕ) (ms ws : List KeyMap) (m new : KeyMap) → AddedTo r i ms ws → i < length ws
-    → m ≡ get_or ws i m → Added r m new → AddedTo r (suc i) ms (slice_set ws i new)
-added_suc r i [] [] m new a lt is one = absurd (omega (arith, lt))
-added_suc r i [] (w ∷ ws) m new a lt is one = absurd a
-added_suc r i (v ∷ ms) [] m new a lt is one = absurd a
-added_suc r zero (v ∷ ms) (w ∷ ws) m new a lt is one = (subst (λ x. Added r x new) (is ∙ a.0) one, a.1)
-added_suc r (suc i) (v ∷ ms) (w ∷ ws) m new a lt is one = (a.0, added_suc r i ms ws m new a.1 (omega (arith, lt)) is one)
+first_is_it : {X : Type 0} (x y : X) (xs ys : List X) → x ∷ xs ≡ y ∷ ys → x ≡ y
+first_is_it x y xs ys e = cc
 
-pub added_next : (r : Row) (i : ℕ) (ms ws : List KeyMap) (m new : KeyMap) → AddedTo r i ms ws → i < length ws
-    → m ≡ get_or ws i m → Added r m new → AddedTo r (i + 1) ms (slice_set ws i new)
-added_next r i ms ws m new a lt is one =
+added_suc : (i : ℕ) (ks rest : List (Option Folds)) (k : Option Folds) (p : Place) (ms ws : List KeyMap) (m new : KeyMap)
+    → AddedByAll (take i ks) p ms ws → i < length ws → m ≡ get_or ws i m → drop i ks ≡ k ∷ rest
+    → AddedBy k p m new → AddedByAll (take (suc i) ks) p ms (slice_set ws i new)
+added_suc i ks rest k p [] [] m new a lt is next one = absurd (omega (arith, lt))
+added_suc i ks rest k p [] (w ∷ ws) m new a lt is next one = absurd a
+added_suc i ks rest k p (v ∷ ms) [] m new a lt is next one = absurd (omega (arith, lt))
+added_suc zero [] rest k p (v ∷ ms) (w ∷ ws) m new a lt is next one = absurd (cc)
+added_suc (suc i) [] rest k p (v ∷ ms) (w ∷ ws) m new a lt is next one = absurd (cc)
+added_suc zero (q ∷ ks) rest k p (v ∷ ms) (w ∷ ws) m new a lt is next one =
+    (subst (λ x. AddedBy q p x new) (is ∙ a.0) (subst (λ x. AddedBy x p m new) (sym (first_is_it q k ks rest next)) one), a.1)
+added_suc (suc i) (q ∷ ks) rest k p (v ∷ ms) (w ∷ ws) m new a lt is next one =
+    (a.0, added_suc i ks rest k p ms ws m new a.1 (omega (arith, lt)) is next one)
+
+pub added_next : (i : ℕ) (ks rest : List (Option Folds)) (k : Option Folds) (p : Place) (ms ws : List KeyMap) (m new : KeyMap)
+    → AddedByAll (take i ks) p ms ws → i < length ws → m ≡ get_or ws i m → drop i ks ≡ k ∷ rest
+    → AddedBy k p m new → AddedByAll (take (i + 1) ks) p ms (slice_set ws i new)
+added_next i ks rest k p ms ws m new a lt is next one =
     let e : suc i ≡ i + 1 = omega arith in
-    subst (λ n. AddedTo r n ms (slice_set ws i new)) e (added_suc r i ms ws m new a lt is one)
+    subst (λ n. AddedByAll (take n ks) p ms (slice_set ws i new)) e (added_suc i ks rest k p ms ws m new a lt is next one)
+
+-- behind a key that is taken the next ones are left
+pub left_next : {X : Type 0} (i : ℕ) (xs rest : List X) (x : X) → drop i xs ≡ x ∷ rest → rest ≡ drop (i + 1) xs
+left_next i xs rest x e = sym (ap (λ ys. drop 1 ys) e) ∙ drop-drop 1 i xs
+
+pub left_none : {X : Type 0} (i : ℕ) (xs : List X) → drop i xs ≡ [] → drop (i + 1) xs ≡ []
+left_none i xs e = sym (drop-drop 1 i xs) ∙ ap (λ ys. drop 1 ys) e
+
+-- where none is left, all were taken
+pub none_next : (i : ℕ) (ks : List (Option Folds)) (p : Place) (ms ws : List KeyMap) → AddedByAll (take i ks) p ms ws
+    → drop i ks ≡ [] → AddedByAll (take (i + 1) ks) p ms ws
+none_next i ks p ms ws a none =
+    subst (λ (xs : List (Option Folds)). AddedByAll xs p ms ws)
+    (sym (append-nil (take i ks)) ∙ ap (λ xs. take i ks ++ take 1 xs) (sym none) ∙ sym (take-add i 1 ks)) a
+
+-- so many keys as there are maps are all that matter
+pub added_end : (ks : List (Option Folds)) (p : Place) (ms ws : List KeyMap) → AddedByAll (take (length ms) ks) p ms ws
+    → AddedByAll ks p ms ws
+added_end ks p [] [] a = tt
+added_end ks p [] (w ∷ ws) a = absurd a
+added_end ks p (m ∷ ms) [] a = absurd a
+added_end [] p (m ∷ ms) (w ∷ ws) a = a
+added_end (k ∷ ks) p (m ∷ ms) (w ∷ ws) a = (a.0, added_end ks p ms ws a.1)
 
 -- ---- the start and the end of a run
 
@@ -262,15 +302,6 @@ sorted_out t cells f rows ordered sh is = record {
   rows_are = ap (map row_of) is ∙ values_seen f.rows.entries ∙ ap (map (λ (e : Folds × Row). e.1)) sh.entries;
   left_are = sh.left;
 }
-
--- what a look-up in a map finds
-pub found_rest : (m : KeyMap) (r : Row) (parts : List KeyPart) (none : Bool) (key : Folds) (o : Option Place)
-    → parts ≡ m.plan.now.parts.items → none ≡ has_null parts (held r) → none ≡ false
-    → key ≡ key_of parts (held r) → o ≡ get (slice_cmp value_cmp) m.rows key → o ≡ found_in m r
-found_rest m r parts none key o p n f k e =
-    let parts_of = m.plan.now.parts.items in
-    let no : has_null parts_of (held r) ≡ false = ap (λ (ps : List KeyPart). has_null ps (held r)) (sym p) ∙ sym n ∙ f in
-    rw no (e ∙ ap (get (slice_cmp value_cmp) m.rows) (k ∙ ap (λ (ps : List KeyPart). key_of ps (held r)) p))
 
 -- no cells give no rows, and none is left
 pub no_cells : (t : Keys) (cells : List Row) → cells ≡ [] → AreSorted t cells cells []

@@ -1,6 +1,6 @@
 -- The rows of a table and the cells that are none, as the calls answer them (docs/FORMAT.md, "Keys and
 -- clashes").
-use Rattle.std.specs.Prelude.{◌≡◌, ℕ, Option, Some, None, List, [], ◌∷◌, map}
+use Rattle.std.specs.Prelude.{◌≡◌, ℕ, Some, None, List, [], ◌∷◌, map}
 use Rattle.table_shape.specs.Keys.{Keys}
 use Rattle.page_walk.specs.declared.outcomes.Place.{Place}
 use Rattle.page_walk.specs.Cells.{Row, row_of}

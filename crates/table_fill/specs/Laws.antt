@@ -1,6 +1,6 @@
 -- What holds of the rows of a table and of the cells that are none, whatever the cells are (docs/FORMAT.md, "Keys
 -- and clashes").
-use Rattle.std.specs.Prelude.{◌≡◌, ◌≢◌, ◌<◌, ◌↔◌, ◌⊎◌, ℕ, Bool, true, false, not, Option, Some, None, List, [], ◌∷◌, ◌++◌, filter, map}
+use Rattle.std.specs.Prelude.{◌≡◌, ◌<◌, ◌↔◌, ◌⊎◌, ℕ, true, false, not, Some, None, List, [], ◌∷◌, ◌++◌, filter, map}
 use Rattle.std.specs.List.{AllByRecursion, Contains}
 use Rattle.std.specs.Cmp.Lexicographic.{slice_cmp}
 use Rattle.std.specs.List.Sorted.{IsPermutation, IsStrictlySortedBy}
@@ -13,7 +13,7 @@ use Rattle.page_walk.specs.declared.outcomes.Place.{Place}
 use Rattle.page_walk.specs.Cells.{Row}
 use Rattle.table_fill.specs.declared.fates.Fate.{Fate}
 use Rattle.table_fill.specs.declared.fates.Fate.TheVariants.{Clash, Misfit}
-use Rattle.table_fill.specs.Chosen.{Clashed, clashes_in, misfits_in}
+use Rattle.table_fill.specs.Chosen.{clashes_in, misfits_in}
 use Rattle.table_fill.specs.Fates.{Left, fate_of, first_unordered, held, place_of, rows_of, sorted_of, with_cell, with_cells}
 
 -- each given cell stands in exactly one of the two lists, once

@@ -1,6 +1,6 @@
 -- The maps from keys to the kept rows, and what they hold (docs/ARCHITECTURE.md, "Rows of a table").
-use Rattle.std.specs.Prelude.{◌≡◌, ℕ, zero, suc, Bool, not, ◌&&◌, if◌then◌else◌, Option, Some, None, List, [], ◌∷◌, map}
-use Rattle.std.specs.BTreeMap.{BTreeMap, get}
+use Rattle.std.specs.Prelude.{◌≡◌, Bool, not, ◌&&◌, if◌then◌else◌, Option, Some, None, List, [], ◌∷◌, map}
+use Rattle.std.specs.BTreeMap.{get}
 use Rattle.std.specs.Cmp.Lexicographic.{slice_cmp}
 use Rattle.std.specs.List.{AllByRecursion}
 use Rattle.std.specs.Option.{option_map}
@@ -10,15 +10,15 @@ use Rattle.key_order.specs.Order.{value_cmp}
 use Rattle.record_core.specs.declared.values.Value.{Value}
 use Rattle.table_shape.specs.declared.keys.KeyPart.{KeyPart}
 use Rattle.table_shape.specs.Entries.{in_order}
-use Rattle.table_shape.specs.Keys.{KeyParts, Keys, has_null, key_of, parts_seen}
+use Rattle.table_shape.specs.Keys.{Keys, has_null, key_of, parts_seen}
 use Rattle.page_walk.specs.declared.outcomes.Place.{Place}
-use Rattle.page_walk.specs.declared.outcomes.TakenCell.{TakenCell}
 use Rattle.page_walk.specs.Cells.{Row, row_of}
 use Rattle.table_fill.specs.declared.fates.Fate.{Fate}
 use Rattle.table_fill.specs.declared.maps.KeyMap.{KeyMap}
+use Rattle.table_fill.specs.declared.chooses.CellKeys.{CellKeys}
 use Rattle.table_fill.specs.declared.chooses.Filling.{Filling}
 use Rattle.table_fill.specs.Chosen.{left_seen}
-use Rattle.table_fill.specs.Fates.{Sorted, clash_or, held, place_of, place_where, row_key}
+use Rattle.table_fill.specs.Fates.{Sorted, clash_or, held, place_where, row_key}
 
 -- the latest row with these folded fields by the key that orders the rows
 abbrev pub row_at : List KeyPart → List Row → List Value → Option Row
@@ -35,42 +35,57 @@ has_key parts key k =
 abbrev pub place_at : List KeyPart → List Row → List Value → Option Place
 place_at parts kept key = place_where (has_key parts key) kept
 
--- what the map of the rows answers for a row
-abbrev pub found_first : List KeyPart → BTreeMap Folds TakenCell → Row → Option Place
-found_first parts rows r =
-    option_map (λ t. t.place) (get (slice_cmp value_cmp) rows (key_of parts (held r)))
+-- the key of a row in a map; none where a field of it is NULL
+abbrev pub key_in : KeyMap → Row → Option Folds
+key_in m r = let parts = m.plan.now.parts.items in
+    if has_null parts (held r) then None else Some (key_of parts (held r))
 
--- what a map answers for a row
-abbrev pub found_in : KeyMap → Row → Option Place
-found_in m r = let parts = m.plan.now.parts.items in
-    if has_null parts (held r) then None else get (slice_cmp value_cmp) m.rows (key_of parts (held r))
+abbrev pub keys_in : List KeyMap → Row → List (Option Folds)
+keys_in maps r = map (λ m. key_in m r) maps
+
+-- the keys of a row, each made once
+pub record AreKeysOf (t : Keys) (maps : List KeyMap) (r : Row) (k : CellKeys) : Type 0 where
+  pub first : k.first ≡ row_key t r
+  pub others : k.others.items ≡ keys_in maps r
+
+-- what a map answers for a key
+abbrev pub place_by : KeyMap → Option Folds → Option Place
+place_by m None = None
+place_by m (Some key) = get (slice_cmp value_cmp) m.rows key
 
 -- what the maps answer, the first first
-abbrev pub found_among : List KeyMap → Row → Option Fate
-found_among [] r = None
-found_among (m ∷ maps) r = clash_or (found_in m r) m.plan.now.number (found_among maps r)
+abbrev pub found_by : List KeyMap → List (Option Folds) → Option Fate
+found_by [] keys = None
+found_by (m ∷ maps) [] = None
+found_by (m ∷ maps) (k ∷ keys) = clash_or (place_by m k) m.plan.now.number (found_by maps keys)
+
+-- what all maps of a run answer for the keys of a cell
+abbrev pub clash_by_keys : Filling → CellKeys → Option Fate
+clash_by_keys f k = clash_or (option_map (λ t. t.place) (get (slice_cmp value_cmp) f.rows k.first)) 0
+    (found_by f.maps.items k.others.items)
 
 -- a map holds the rows by its key
 abbrev pub Holds : List Row → KeyMap → Type 0
 Holds kept m = (key : List Value)
     → get (slice_cmp value_cmp) m.rows key ≡ place_at m.plan.now.parts.items kept key
 
--- a map has one row more; a row with a NULL is not in it
-abbrev pub place_with : List KeyPart → Row → List Value → Option Place → Option Place
-place_with parts r key rest = if has_key parts key r then Some (place_of r) else rest
+-- a map has a row with this key more, that stands at this place; without a key there is none more
+abbrev pub place_with : Option Folds → Place → List Value → Option Place → Option Place
+place_with None place q rest = rest
+place_with (Some key) place q rest = if is_eq (slice_cmp value_cmp key q) then Some place else rest
 
-pub record Added (r : Row) (old new : KeyMap) : Type 0 where
+pub record AddedBy (key : Option Folds) (place : Place) (old new : KeyMap) : Type 0 where
   pub plan : new.plan ≡ old.plan
-  pub rows : (key : List Value) → get (slice_cmp value_cmp) new.rows key
-      ≡ place_with old.plan.now.parts.items r key (get (slice_cmp value_cmp) old.rows key)
+  pub rows : (q : List Value) → get (slice_cmp value_cmp) new.rows q
+      ≡ place_with key place q (get (slice_cmp value_cmp) old.rows q)
 
--- the first n maps have one row more
-abbrev pub AddedTo : Row → ℕ → List KeyMap → List KeyMap → Type 0
-AddedTo r n [] [] = Unit {0}
-AddedTo r n [] (m ∷ new) = ⊥
-AddedTo r n (m ∷ old) [] = ⊥
-AddedTo r zero (m ∷ old) (w ∷ new) = (w ≡ m) × AddedTo r zero old new
-AddedTo r (suc n) (m ∷ old) (w ∷ new) = Added r m w × AddedTo r n old new
+-- the maps have a row with these keys more; where there are too few keys the last maps are as they were
+abbrev pub AddedByAll : List (Option Folds) → Place → List KeyMap → List KeyMap → Type 0
+AddedByAll keys place [] [] = Unit {0}
+AddedByAll keys place [] (w ∷ new) = ⊥
+AddedByAll keys place (m ∷ old) [] = ⊥
+AddedByAll [] place (m ∷ old) (w ∷ new) = (w ≡ m) × AddedByAll [] place old new
+AddedByAll (k ∷ keys) place (m ∷ old) (w ∷ new) = AddedBy k place m w × AddedByAll keys place old new
 
 -- the maps and lists of a run show what was sorted out
 pub record Shows (t : Keys) (s : Sorted) (f : Filling) : Type 0 where

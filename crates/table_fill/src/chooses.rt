@@ -5,21 +5,21 @@ ghost use Rattle.std.specs.BTreeMap.{get, insert_entry};
 ghost use Rattle.std.specs.Cmp.Lexicographic.{slice_cmp};
 ghost use Rattle.std.specs.Option.{option_map};
 ghost use Rattle.key_order.specs.Order.{value_cmp};
-ghost use Rattle.table_shape.specs.Keys.{key_of, keys_of, keys_seen};
+ghost use Rattle.table_shape.specs.Keys.{Keys, key_of, keys_of, keys_seen};
 ghost use Rattle.table_shape.specs.Seen.{shape_seen};
 ghost use Rattle.page_walk.specs.Cells.{row_of};
 ghost use Rattle.table_fill.specs.Chosen.{IsChosen};
 ghost use Rattle.table_fill.specs.Fates.{Sorted, fate_of, first_clash, first_unordered, held, place_of, with_cell, with_cells, with_fate};
-ghost use Rattle.table_fill.specs.Maps.{Shows, found_first};
+ghost use Rattle.table_fill.specs.Maps.{AreKeysOf, Shows, clash_by_keys};
 
 use crate::fates::{Chosen, Fate, LeftCell};
 use crate::fits::{first_unordered, fits, key_of};
-use crate::maps::{KeyMap, add_all, find_among, new_maps};
+use crate::maps::{KeyMap, add_all, find_among, keys_in, new_maps};
 use key_order::FoldedKey;
 use page_walk::{Place, TakenCell};
 use std::alloc::{AllocError, Global};
 use std::collections::BTreeMap;
-use table_shape::{KeyPart, TablePlan, TableShape, plan_keys};
+use table_shape::{TablePlan, TableShape, plan_keys};
 
 /// The kept rows in their order, where each stands by each key, and the cells that are no rows.
 #[derive(Drop)]
@@ -27,6 +27,14 @@ pub struct Filling<'a> {
     pub rows: BTreeMap<FoldedKey, TakenCell>,
     pub maps: Vec<KeyMap<'a>>,
     pub left: Vec<LeftCell>,
+}
+
+/// The keys of a cell that fits: that which orders the rows, and those with a number, none where a field of it
+/// is NULL.
+#[derive(Drop)]
+pub struct CellKeys {
+    pub first: FoldedKey,
+    pub others: Vec<Option<FoldedKey>>,
 }
 
 /// Sorts out the cells of a table, given in cell order: a cell that fits is a row exactly where it
@@ -128,60 +136,55 @@ fn take(
     ensures { (s : Sorted) → Shows (keys_seen plan.now) s now.old
         → OnOk result (Shows (keys_seen plan.now) (with_cell (keys_seen plan.now) s (row_of cell)) now.new) }
 {
-    match fate_of(alloc, plan, &*now, &cell)? {
+    if !fits(plan, &cell) {
+        let fate = Fate::Misfit;
+        now.left.push(LeftCell { cell, fate })?;
+        return Ok(());
+    }
+    let keys = keys_of(alloc, plan, &*now, &cell)?;
+    match clash_of(&*now, &keys) {
         Some(fate) => now.left.push(LeftCell { cell, fate })?,
-        None => keep(alloc, plan, cell, now)?,
+        None => keep(cell, keys, now)?,
     }
     Ok(())
 }
 
-// Why the cell is no row; none where it is one.
-fn fate_of(
+// The keys of a cell, each made once.
+fn keys_of(
     alloc: Global,
     plan: &TablePlan,
     now: &Filling<'_>,
     cell: &TakenCell,
-) -> Result<Option<Fate>, AllocError>
-    ensures { (s : Sorted) → Shows (keys_seen plan.now) s now.now
-        → IfOk result (λ f. f ≡ fate_of (keys_seen plan.now) s.kept (row_of cell.now)) }
+) -> Result<CellKeys, AllocError>
+    ensures { IfOk result (AreKeysOf (keys_seen plan.now) now.now.maps.items (row_of cell.now)) }
 {
-    if !fits(plan, cell) {
-        return Ok(Some(Fate::Misfit));
-    }
-    match find_first(alloc, plan.first.as_slice(), &now.rows, cell)? {
-        Some(earlier) => Ok(Some(Fate::Clash { earlier, key: 0 })),
-        None => find_among(alloc, now.maps.as_slice(), cell),
+    Ok(CellKeys {
+        first: key_of(alloc, plan.first.as_slice(), cell)?,
+        others: keys_in(alloc, now.maps.as_slice(), cell)?,
+    })
+}
+
+// Why a cell with these keys that fits is no row; none where it is one.
+fn clash_of(now: &Filling<'_>, keys: &CellKeys) -> Option<Fate>
+    ensures { result ≡ clash_by_keys now.now keys.now }
+{
+    match now.rows.get(&keys.first) {
+        Some(row) => Some(Fate::Clash {
+            earlier: row.place,
+            key: 0,
+        }),
+        None => find_among(now.maps.as_slice(), keys.others.as_slice()),
     }
 }
 
-// The kept row with the cell's rowid or primary key.
-fn find_first(
-    alloc: Global,
-    parts: &[KeyPart],
-    rows: &BTreeMap<FoldedKey, TakenCell>,
-    cell: &TakenCell,
-) -> Result<Option<Place>, AllocError>
-    ensures { IfOk result (λ p. p ≡ found_first parts.now rows.now (row_of cell.now)) }
+// Takes the cell with these keys in as a row.
+fn keep(cell: TakenCell, keys: CellKeys, now: &mut Filling<'_>) -> Result<(), AllocError>
+    ensures { (t : Keys) (s : Sorted) → Shows t s now.old
+        → AreKeysOf t now.old.maps.items (row_of cell) keys
+        → OnOk result (Shows t (with_fate s (row_of cell) None) now.new) }
 {
-    let key = key_of(alloc, parts, cell)?;
-    match rows.get(&key) {
-        Some(row) => Ok(Some(row.place)),
-        None => Ok(None),
-    }
-}
-
-// Takes the cell in as a row.
-fn keep(
-    alloc: Global,
-    plan: &TablePlan,
-    cell: TakenCell,
-    now: &mut Filling<'_>,
-) -> Result<(), AllocError>
-    ensures { (s : Sorted) → Shows (keys_seen plan.now) s now.old
-        → OnOk result (Shows (keys_seen plan.now) (with_fate s (row_of cell) None) now.new) }
-{
-    add_all(alloc, now.maps.as_mut_slice(), &cell)?;
-    let key = key_of(alloc, plan.first.as_slice(), &cell)?;
-    now.rows.insert(key, cell)?;
+    let CellKeys { first, others } = keys;
+    add_all(now.maps.as_mut_slice(), others, cell.place)?;
+    now.rows.insert(first, cell)?;
     Ok(())
 }

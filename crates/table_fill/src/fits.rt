@@ -53,11 +53,11 @@ pub fn has_null(parts: &[KeyPart], cell: &TakenCell) -> bool
 pub fn key_of(alloc: Global, parts: &[KeyPart], cell: &TakenCell) -> Result<FoldedKey, AllocError>
     ensures { IfOk result (λ k. k ≡ key_of parts.now (held (row_of cell.now))) }
 {
-    let mut values = Vec::with_capacity(alloc, parts.len())?;
+    let mut key = FoldedKey::new(alloc);
     for part in parts {
-        values.push(folded_at(alloc, part, cell)?)?;
+        key.push(folded_at(alloc, part, cell)?)?;
     }
-    Ok(FoldedKey::of(values))
+    Ok(key)
 }
 
 fn folded_at(alloc: Global, part: &KeyPart, cell: &TakenCell) -> Result<Value, AllocError>

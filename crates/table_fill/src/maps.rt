@@ -8,7 +8,7 @@ ghost use Rattle.key_order.specs.Order.{value_cmp};
 ghost use Rattle.table_shape.specs.Keys.{has_null, key_of, parts_seen};
 ghost use Rattle.page_walk.specs.Cells.{row_of};
 ghost use Rattle.table_fill.specs.Fates.{held, place_of};
-ghost use Rattle.table_fill.specs.Maps.{Added, AddedTo, Holds, found_among, found_in};
+ghost use Rattle.table_fill.specs.Maps.{AddedBy, AddedByAll, Holds, found_by, key_in, keys_in, place_by};
 
 use crate::fates::Fate;
 use crate::fits::{has_null, key_of};
@@ -26,54 +26,82 @@ pub struct KeyMap<'a> {
 }
 
 impl<'a> KeyMap<'a> {
-    // The kept row with which the cell clashes.
-    fn find(&self, alloc: Global, cell: &TakenCell) -> Result<Option<Place>, AllocError>
-        ensures { IfOk result (λ p. p ≡ found_in self.now (row_of cell.now)) }
+    // The key of a cell here; none where a field of it is NULL.
+    fn key(&self, alloc: Global, cell: &TakenCell) -> Result<Option<FoldedKey>, AllocError>
+        ensures { IfOk result (λ k. k ≡ key_in self.now (row_of cell.now)) }
     {
         let parts = self.plan.parts.as_slice();
         if has_null(parts, cell) {
             return Ok(None);
         }
-        let key = key_of(alloc, parts, cell)?;
-        Ok(self.rows.get(&key).copied())
+        Ok(Some(key_of(alloc, parts, cell)?))
     }
 
-    // Takes the cell in.
-    fn add(&mut self, alloc: Global, cell: &TakenCell) -> Result<(), AllocError>
-        ensures { OnOk result (Added (row_of cell.now) self.old self.new) }
+    // The kept row with this key.
+    fn find(&self, key: &Option<FoldedKey>) -> Option<Place>
+        ensures { result ≡ place_by self.now key.now }
     {
-        let parts = self.plan.parts.as_slice();
-        if !has_null(parts, cell) {
-            let key = key_of(alloc, parts, cell)?;
-            self.rows.insert(key, cell.place)?;
+        match key {
+            Some(key) => self.rows.get(key).copied(),
+            None => None,
+        }
+    }
+
+    // Takes in a row with this key, and where it stands.
+    fn add(&mut self, key: Option<FoldedKey>, place: Place) -> Result<(), AllocError>
+        ensures { OnOk result (AddedBy key place self.old self.new) }
+    {
+        if let Some(key) = key {
+            self.rows.insert(key, place)?;
         }
         Ok(())
     }
 }
 
-/// The least key by which the cell clashes, and with which row.
-pub fn find_among(
+/// The key of a cell in each map.
+pub fn keys_in(
     alloc: Global,
     maps: &[KeyMap<'_>],
     cell: &TakenCell,
-) -> Result<Option<Fate>, AllocError>
-    ensures { IfOk result (λ f. f ≡ found_among maps.now (row_of cell.now)) }
+) -> Result<Vec<Option<FoldedKey>>, AllocError>
+    ensures { IfOk result (λ v. v.items ≡ keys_in maps.now (row_of cell.now)) }
 {
+    let mut keys = Vec::with_capacity(alloc, maps.len())?;
     for map in maps {
-        if let Some(earlier) = map.find(alloc, cell)? {
-            let key = map.plan.number;
-            return Ok(Some(Fate::Clash { earlier, key }));
-        }
+        keys.push(map.key(alloc, cell)?)?;
     }
-    Ok(None)
+    Ok(keys)
 }
 
-/// Takes the cell into each map.
-pub fn add_all(alloc: Global, maps: &mut [KeyMap<'_>], cell: &TakenCell) -> Result<(), AllocError>
-    ensures { OnOk result (AddedTo (row_of cell.now) (length maps.old) maps.old maps.new) }
+/// The least key by which a cell with these keys clashes, and with which row.
+pub fn find_among(maps: &[KeyMap<'_>], keys: &[Option<FoldedKey>]) -> Option<Fate>
+    ensures { result ≡ found_by maps.now keys.now }
 {
+    for (i, map) in maps.iter().enumerate() {
+        let Some(key) = keys.get(i) else {
+            return None;
+        };
+        if let Some(earlier) = map.find(key) {
+            let key = map.plan.number;
+            return Some(Fate::Clash { earlier, key });
+        }
+    }
+    None
+}
+
+/// Takes a row with these keys into each map.
+pub fn add_all(
+    maps: &mut [KeyMap<'_>],
+    keys: Vec<Option<FoldedKey>>,
+    place: Place,
+) -> Result<(), AllocError>
+    ensures { OnOk result (AddedByAll keys.items place maps.old maps.new) }
+{
+    let mut keys = keys.into_iter();
     for map in maps.iter_mut() {
-        map.add(alloc, cell)?;
+        if let Some(key) = keys.next() {
+            map.add(key, place)?;
+        }
     }
     Ok(())
 }

@@ -1,4 +1,4 @@
-use Rattle.std.proofs.Common.{◌≡◌, List, ap, ◌∙◌, map}
+use Rattle.std.proofs.Common.{ap, ◌∙◌, map}
 use Rattle.page_walk.specs.Cells.{row_of}
 use Rattle.table_shape.specs.Keys.{keys_seen, parts_seen}
 use Rattle.table_fill.specs.Fates.{nothing}

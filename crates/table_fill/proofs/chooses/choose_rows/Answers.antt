@@ -1,4 +1,4 @@
-use Rattle.std.proofs.Common.{◌≡◌, List, [], ap, arith, map, nat_eq, sym, subst, eqb-true, ◌∙◌}
+use Rattle.std.proofs.Common.{◌≡◌, List, [], ap, arith, map, sym, subst, eqb-true, ◌∙◌}
 use Rattle.std.proofs.lemmas.List.{nil_from_length}
 use Rattle.page_walk.specs.Cells.{row_of}
 use Rattle.table_shape.specs.Keys.{keys_of}

@@ -1,4 +1,4 @@
-use Rattle.std.proofs.Common.{◌≡◌, List, [], ap, arith, length, map, refl, subst}
+use Rattle.std.proofs.Common.{◌≡◌, [], ap, arith, length, map, refl, subst}
 use Rattle.std.proofs.lemmas.List.{nil_from_length}
 use Rattle.page_walk.specs.Cells.{row_of}
 use Rattle.table_shape.specs.Keys.{keys_of}

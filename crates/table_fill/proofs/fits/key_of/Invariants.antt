@@ -6,4 +6,4 @@ use Rattle.table_fill.proofs.fits.key_of.Given as goal
 
 abbrev pub invariant-loop-part : goal.invariant-loop-part
 invariant-loop-part l =
-    l.values.items ++ key_of (drop l.part-index l.parts) (held (row_of l.cell)) ≡ key_of l.parts (held (row_of l.cell))
+    l.key ++ key_of (drop l.part-index l.parts) (held (row_of l.cell)) ≡ key_of l.parts (held (row_of l.cell))

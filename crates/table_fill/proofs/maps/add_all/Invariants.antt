@@ -1,6 +1,10 @@
-use Rattle.page_walk.specs.Cells.{row_of}
-use Rattle.table_fill.specs.Maps.{AddedTo}
+use Rattle.std.proofs.Common.{◌≡◌, drop, take}
+use Rattle.std.specs.Vec.Iter.{into_iter_items}
+use Rattle.table_fill.specs.Maps.{AddedByAll}
 use Rattle.table_fill.proofs.maps.add_all.Given as goal
 
 abbrev pub invariant-loop-map : goal.invariant-loop-map
-invariant-loop-map l = AddedTo (row_of l.cell) l.map-index l.fn.maps l.maps
+invariant-loop-map l = record {
+  rest : into_iter_items l.keys ≡ drop l.map-index l.fn.keys.items;
+  added : AddedByAll (take l.map-index l.fn.keys.items) l.place l.fn.maps l.maps;
+}

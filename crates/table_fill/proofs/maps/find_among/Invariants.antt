@@ -1,8 +1,6 @@
 use Rattle.std.proofs.Common.{◌≡◌, drop}
-use Rattle.page_walk.specs.Cells.{row_of}
-use Rattle.table_fill.specs.Maps.{found_among}
+use Rattle.table_fill.specs.Maps.{found_by}
 use Rattle.table_fill.proofs.maps.find_among.Given as goal
 
-abbrev pub invariant-loop-map : goal.invariant-loop-map
-invariant-loop-map l =
-    found_among (drop l.map-index l.maps) (row_of l.cell) ≡ found_among l.maps (row_of l.cell)
+abbrev pub invariant-loop-i : goal.invariant-loop-i
+invariant-loop-i l = found_by (drop l.i l.maps) (drop l.i l.keys) ≡ found_by l.maps l.keys

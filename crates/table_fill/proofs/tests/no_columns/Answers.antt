@@ -1,4 +1,4 @@
-use Rattle.std.proofs.Common.{◌≡◌, refl, sym, subst, arith, ℕ, true, false, None, List, [], map}
+use Rattle.std.proofs.Common.{refl, sym, subst, arith, ℕ, false, None, List, [], map}
 use Rattle.std.specs.List.{IsDistinct}
 use Rattle.table_shape.specs.declared.columns.Column.{Column}
 use Rattle.table_shape.specs.declared.columns.Key.{Key}

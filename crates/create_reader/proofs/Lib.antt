@@ -4,5 +4,6 @@ pub mod Known
 pub mod Valid
 pub mod Early
 pub mod Alike
+pub mod Lookup
 pub mod Parts
 pub mod One

@@ -32,15 +32,15 @@ same_equiv = on_equiv str_to_ascii_lowercase nat_list_eq_equiv
 -- ---- the place of a name
 
 -- what the place of a name is, by the first column
-place_first : (c : ColumnText) (cs : List ColumnText) (name : List ℕ) → same_name c.name name ≡ true → place (c ∷ cs) name ≡ 0
+pub place_first : (c : ColumnText) (cs : List ColumnText) (name : List ℕ) → same_name c.name name ≡ true → place (c ∷ cs) name ≡ 0
 place_first c cs name h = rw h refl
 
-place_later : (c : ColumnText) (cs : List ColumnText) (name : List ℕ) → same_name c.name name ≡ false
+pub place_later : (c : ColumnText) (cs : List ColumnText) (name : List ℕ) → same_name c.name name ≡ false
     → place (c ∷ cs) name ≡ 1 + place cs name
 place_later c cs name h = rw h refl
 
 -- a name that a column has: it has a place, and the column there is the one that is named
-record IsPlaced (columns : List ColumnText) (name : List ℕ) : Type 0 where
+pub record IsPlaced (columns : List ColumnText) (name : List ℕ) : Type 0 where
   pub within : place columns name < length columns
   pub is : slice_get columns (place columns name) ≡ column_named columns name
 
@@ -61,7 +61,7 @@ placed_at c cs name false e h k =
       is = subst (λ z. slice_get (c ∷ cs) z ≡ column_named (c ∷ cs) name) (sym at) (rw e p.is);
     }
 
-placed : (columns : List ColumnText) (name : List ℕ) → is_none (column_named columns name) ≡ false → IsPlaced columns name
+pub placed : (columns : List ColumnText) (name : List ℕ) → is_none (column_named columns name) ≡ false → IsPlaced columns name
 placed [] name h = absurd (true≢false h)
 placed (c ∷ cs) name h = placed_at c cs name (same_name c.name name) refl h (placed cs name)
 
@@ -83,7 +83,7 @@ apart_at c cs a b false false e f h g k =
     let same : place cs a ≡ place cs b = omega (arith, z, one, two) in
     true≢false (sym (eq-eqb (place cs a) (place cs b) same) ∙ k g))
 
-places_apart : (columns : List ColumnText) (a b : List ℕ) → same_name a b ≡ false
+pub places_apart : (columns : List ColumnText) (a b : List ℕ) → same_name a b ≡ false
     → is_none (column_named columns a) ≡ false → nat_eq (place columns a) (place columns b) ≡ false
 places_apart [] a b h g = absurd (true≢false g)
 places_apart (c ∷ cs) a b h g =

@@ -5,5 +5,6 @@ pub mod Numbers
 pub mod Faults
 pub mod Meaning
 pub mod Views
+pub mod Index
 pub mod Outcome
 pub mod Laws

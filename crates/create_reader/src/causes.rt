@@ -1,31 +1,126 @@
 //! Why a text of the grammar has no shape.
 
-ghost use Rattle.std.specs.Prelude.{◌≡◌, List, count_by, length, map, is_none, ◌||◌, ◌==◌, ◌&&◌, slice_get};
+ghost use Rattle.std.specs.Prelude.{◌≡◌, IfOk, IfSome, List, count_by, false, length, map, is_none, ◌||◌, ◌==◌, ◌&&◌, slice_get};
 ghost use Rattle.std.specs.List.{list_any};
-ghost use Rattle.create_reader.specs.Faults.{auto_alone, bad_list, before_primary, column_repeats, has_bad_list, has_marks, has_repeat, integer_beside_keys, key_fault, key_lacks_coll, lacks_coll, list_lacks_coll, primary_count, unique_before, wrong_primaries};
-ghost use Rattle.create_reader.specs.Numbers.{column_named, makes_alias, numbered_of, same_names, single_integer};
-ghost use Rattle.create_reader.specs.Views.{constraint_seen, constraints_seen, seen};
-ghost use Rattle.table_shape.specs.Names.{same_name};
+ghost use Rattle.create_reader.specs.Faults.{auto_alone, bad_list, before_primary, has_bad_list, has_marks, integer_beside_keys, key_fault, key_lacks_coll, lacks_coll, primary_count, unique_before, wrong_primaries};
+ghost use Rattle.create_reader.specs.Index.{IsIndex};
+ghost use Rattle.create_reader.specs.Meaning.{places};
+ghost use Rattle.create_reader.specs.Numbers.{makes_alias, numbered_of, same_names, single_integer};
+ghost use Rattle.create_reader.specs.Views.{constraint_seen, constraints_seen, names_seen, seen};
 
 use crate::numbers::{makes_alias, same_names, single_integer};
-use crate::texts::{ColumnText, ConstraintText, KeyNames, TableText};
+use crate::places::{Index, places};
+use crate::texts::{ColumnText, ConstraintText, TableText};
 use record_core::Bytes;
-use table_shape::same_name;
+use std::alloc::{AllocError, Global};
 
-/// Whether one of the causes of `Key` holds. `taken` are the constraints that take a number.
-pub fn key_fault(table: &TableText, taken: &[&ConstraintText]) -> bool
-    requires { map (λ k. constraint_seen table.now.columns.items k.now) taken.now
+/// The columns of the constraints that take a number, which are `taken`; none where one of the causes of `Key` holds.
+pub fn key_lists(
+    alloc: Global,
+    table: &TableText,
+    index: &Index,
+    taken: &[&ConstraintText],
+) -> Result<Option<Vec<Vec<u32>>>, AllocError>
+    requires index { IsIndex table.now.columns.items index.now }
+    requires taken { map (λ k. constraint_seen table.now.columns.items k.now) taken.now
         ≡ numbered_of (seen table.now) }
-    ensures { result ≡ key_fault (seen table.now) }
+    ensures fault { IfOk result (λ found. is_none found ≡ key_fault (seen table.now)) }
+    ensures lists { IfOk result (λ found. IfSome found (λ v. map (λ list. list.items) v.items
+        ≡ map (λ c. places table.now.columns.items c.names) (numbered_of (seen table.now)))) }
 {
-    wrong_primaries(table)
-        || auto_alone(table)
-        || column_repeats(table.columns.as_slice())
-        || has_bad_list(table, taken)
-        || has_marks(table)
-        || key_lacks_coll(table.columns.as_slice(), taken)
-        || integer_beside_keys(table, taken)
-        || unique_before(table, taken)
+    let lists = match lists(alloc, table, index, taken)? {
+        Some(lists) => lists,
+        None => return Ok(None),
+    };
+    if key_fault(alloc, table, index, taken, lists.as_slice())? {
+        return Ok(None);
+    }
+    Ok(Some(lists))
+}
+
+// The columns of constraints; none where a list is bad.
+fn lists(
+    alloc: Global,
+    table: &TableText,
+    index: &Index,
+    taken: &[&ConstraintText],
+) -> Result<Option<Vec<Vec<u32>>>, AllocError>
+    requires { IsIndex table.now.columns.items index.now }
+    ensures bad { IfOk result (λ found. is_none found ≡ list_any (bad_list table.now.columns.items)
+        (map (λ k. constraint_seen table.now.columns.items k.now) taken.now)) }
+    ensures lists { IfOk result (λ found. IfSome found (λ v. map (λ list. list.items) v.items
+        ≡ map (λ c. places table.now.columns.items c.names)
+        (map (λ k. constraint_seen table.now.columns.items k.now) taken.now))) }
+{
+    let columns = table.columns.as_slice();
+    let mut found = Vec::new(alloc);
+    for c in taken {
+        match list_of(alloc, columns, index, c)? {
+            Some(list) => found.push(list)?,
+            None => return Ok(None),
+        }
+    }
+    Ok(Some(found))
+}
+
+// The columns of a constraint; none where its list is bad.
+fn list_of(
+    alloc: Global,
+    columns: &[ColumnText],
+    index: &Index,
+    c: &ConstraintText,
+) -> Result<Option<Vec<u32>>, AllocError>
+    requires { IsIndex columns.now index.now }
+    ensures bad { IfOk result (λ found. is_none found
+        ≡ bad_list columns.now (constraint_seen columns.now c.now)) }
+    ensures list { IfOk result (λ found. IfSome found (λ v. v.items
+        ≡ places columns.now (names_seen columns.now c.now.names))) }
+{
+    let names = c.names(columns);
+    if names.is_empty() {
+        return Ok(None);
+    }
+    places(alloc, columns, index, names)
+}
+
+// Whether one of the causes of `Key` holds, where no list of `taken` is bad; `lists` are their columns.
+fn key_fault(
+    alloc: Global,
+    table: &TableText,
+    index: &Index,
+    taken: &[&ConstraintText],
+    lists: &[Vec<u32>],
+) -> Result<bool, AllocError>
+    requires index { IsIndex table.now.columns.items index.now }
+    requires taken { map (λ k. constraint_seen table.now.columns.items k.now) taken.now
+        ≡ numbered_of (seen table.now) }
+    requires good { list_any (bad_list table.now.columns.items) (numbered_of (seen table.now)) ≡ false }
+    requires lists { map (λ list. list.items) lists.now
+        ≡ map (λ c. places table.now.columns.items c.names) (numbered_of (seen table.now)) }
+    ensures { IfOk result (λ b. b ≡ key_fault (seen table.now)) }
+{
+    if wrong_primaries(table) {
+        return Ok(true);
+    }
+    if auto_alone(alloc, table, index)? {
+        return Ok(true);
+    }
+    if index.repeats {
+        return Ok(true);
+    }
+    if has_bad_list(alloc, table, index)? {
+        return Ok(true);
+    }
+    if has_marks(table) {
+        return Ok(true);
+    }
+    if key_lacks_coll(table, lists) {
+        return Ok(true);
+    }
+    if integer_beside_keys(alloc, table, index, taken)? {
+        return Ok(true);
+    }
+    Ok(unique_before(table, taken))
 }
 
 fn wrong_primaries(table: &TableText) -> bool
@@ -42,146 +137,46 @@ fn primary_count(table: &TableText) -> usize
     constraints.iter().filter(|c| c.primary).count()
 }
 
-fn auto_alone(table: &TableText) -> bool
-    ensures { result ≡ auto_alone (seen table.now) }
+fn auto_alone(alloc: Global, table: &TableText, index: &Index) -> Result<bool, AllocError>
+    requires { IsIndex table.now.columns.items index.now }
+    ensures { IfOk result (λ b. b ≡ auto_alone (seen table.now)) }
 {
     for c in table.constraints.as_slice() {
-        if c.auto && !makes_alias(table, c) {
-            return true;
+        if c.auto {
+            let makes_alias = makes_alias(alloc, table, index, c)?;
+            if !makes_alias {
+                return Ok(true);
+            }
         }
     }
-    false
-}
-
-fn column_repeats(columns: &[ColumnText]) -> bool
-    ensures { result ≡ has_repeat (map (λ c. c.name) columns.now) }
-{
-    for (i, column) in columns.iter().enumerate() {
-        if has_column(&columns[i + 1..], column.name.as_slice()) {
-            return true;
-        }
-    }
-    false
-}
-
-fn has_column(columns: &[ColumnText], name: &[u8]) -> bool
-    ensures { result ≡ list_any (same_name name.now) (map (λ c. c.name) columns.now) }
-{
-    for column in columns {
-        if same_name(name, column.name.as_slice()) {
-            return true;
-        }
-    }
-    false
+    Ok(false)
 }
 
 // A list that took no number has the names of one that did, or makes its column the rowid.
-fn has_bad_list(table: &TableText, taken: &[&ConstraintText]) -> bool
-    requires { map (λ k. constraint_seen table.now.columns.items k.now) taken.now
-        ≡ numbered_of (seen table.now) }
-    ensures { result ≡ has_bad_list (seen table.now) }
+fn has_bad_list(alloc: Global, table: &TableText, index: &Index) -> Result<bool, AllocError>
+    requires index { IsIndex table.now.columns.items index.now }
+    requires good { list_any (bad_list table.now.columns.items) (numbered_of (seen table.now)) ≡ false }
+    ensures { IfOk result (λ b. b ≡ has_bad_list (seen table.now)) }
 {
-    if some_bad(table, taken) {
-        return true;
-    }
-    alias_bad(table)
+    let bad = alias_bad(alloc, table, index)?;
+    Ok(bad)
 }
 
-fn some_bad(table: &TableText, taken: &[&ConstraintText]) -> bool
-    ensures { result ≡ list_any (bad_list table.now.columns.items)
-        (map (λ k. constraint_seen table.now.columns.items k.now) taken.now) }
-{
-    let columns = table.columns.as_slice();
-    for c in taken {
-        if bad_list(columns, c) {
-            return true;
-        }
-    }
-    false
-}
-
-fn alias_bad(table: &TableText) -> bool
-    ensures { result ≡ list_any (λ c. makes_alias (seen table.now) c && bad_list table.now.columns.items c)
-        (seen table.now).constraints }
+fn alias_bad(alloc: Global, table: &TableText, index: &Index) -> Result<bool, AllocError>
+    requires { IsIndex table.now.columns.items index.now }
+    ensures { IfOk result (λ b. b ≡ list_any (λ c. makes_alias (seen table.now) c
+        && bad_list table.now.columns.items c) (seen table.now).constraints) }
 {
     let columns = table.columns.as_slice();
     for c in table.constraints.as_slice() {
-        if makes_alias(table, c) && bad_list(columns, c) {
-            return true;
+        if makes_alias(alloc, table, index, c)? {
+            let list = list_of(alloc, columns, index, c)?;
+            if list.is_none() {
+                return Ok(true);
+            }
         }
     }
-    false
-}
-
-fn bad_list(columns: &[ColumnText], c: &ConstraintText) -> bool
-    ensures { result ≡ bad_list columns.now (constraint_seen columns.now c.now) }
-{
-    match &c.names {
-        KeyNames::OfColumn(number) => is_no_place(columns, *number),
-        KeyNames::Listed(names) => bad_names(columns, names.as_slice()),
-    }
-}
-
-fn is_no_place(columns: &[ColumnText], number: usize) -> bool
-    ensures { result ≡ is_none (slice_get columns.now number) }
-{
-    columns.get(number).is_none()
-}
-
-// Of more names than there are columns, one is no column or comes twice.
-fn bad_names(columns: &[ColumnText], names: &[Bytes]) -> bool
-    ensures { result ≡ ((length names.now == 0)
-        || (list_any (λ name. is_none (column_named columns.now name)) names.now
-        || has_repeat names.now)) }
-{
-    if names.len() > columns.len() {
-        return true;
-    }
-    names.is_empty() || names_no_column(columns, names) || has_repeat(names)
-}
-
-fn names_no_column(columns: &[ColumnText], names: &[Bytes]) -> bool
-    ensures { result ≡ list_any (λ name. is_none (column_named columns.now name)) names.now }
-{
-    for name in names {
-        if is_no_column(columns, name.as_slice()) {
-            return true;
-        }
-    }
-    false
-}
-
-fn is_no_column(columns: &[ColumnText], name: &[u8]) -> bool
-    ensures { result ≡ is_none (column_named columns.now name.now) }
-{
-    for column in columns {
-        if same_name(column.name.as_slice(), name) {
-            return false;
-        }
-    }
-    true
-}
-
-fn has_repeat(names: &[Bytes]) -> bool
-    ensures { result ≡ has_repeat names.now }
-{
-    for (i, name) in names.iter().enumerate() {
-        if has_name(&names[i + 1..], name.as_slice()) {
-            return true;
-        }
-    }
-    false
-}
-
-fn has_name(names: &[Bytes], name: &[u8]) -> bool
-    ensures { result ≡ list_any (same_name name.now) names.now }
-{
-    for other in names {
-        if same_name(name, other.as_slice()) {
-            return true;
-        }
-    }
-    false
+    Ok(false)
 }
 
 fn has_marks(table: &TableText) -> bool
@@ -195,59 +190,80 @@ fn has_marks(table: &TableText) -> bool
     false
 }
 
-fn key_lacks_coll(columns: &[ColumnText], taken: &[&ConstraintText]) -> bool
-    ensures { result ≡ list_any (list_lacks_coll columns.now)
-        (map (λ k. constraint_seen columns.now k.now) taken.now) }
+fn key_lacks_coll(table: &TableText, lists: &[Vec<u32>]) -> bool
+    requires { map (λ list. list.items) lists.now
+        ≡ map (λ c. places table.now.columns.items c.names) (numbered_of (seen table.now)) }
+    ensures { result ≡ key_lacks_coll (seen table.now) }
 {
-    for c in taken {
-        if list_lacks_coll(columns, c.names(columns)) {
+    lists_lack_coll(table.columns.as_slice(), lists)
+}
+
+fn lists_lack_coll(columns: &[ColumnText], lists: &[Vec<u32>]) -> bool
+    ensures { result ≡ list_any (list_any (λ k. lacks_coll (slice_get columns.now k)))
+        (map (λ list. list.items) lists.now) }
+{
+    for list in lists {
+        if list_lacks_coll(columns, list.as_slice()) {
             return true;
         }
     }
     false
 }
 
-fn list_lacks_coll(columns: &[ColumnText], names: &[Bytes]) -> bool
-    ensures { result ≡ list_any (λ name. lacks_coll (column_named columns.now name)) names.now }
+fn list_lacks_coll(columns: &[ColumnText], list: &[u32]) -> bool
+    ensures { result ≡ list_any (λ k. lacks_coll (slice_get columns.now k)) list.now }
 {
-    for name in names {
-        if lacks_coll(columns, name.as_slice()) {
+    for number in list {
+        if lacks_coll(columns, *number) {
             return true;
         }
     }
     false
 }
 
-fn lacks_coll(columns: &[ColumnText], name: &[u8]) -> bool
-    ensures { result ≡ lacks_coll (column_named columns.now name.now) }
+fn lacks_coll(columns: &[ColumnText], number: u32) -> bool
+    ensures { result ≡ lacks_coll (slice_get columns.now number) }
 {
-    for column in columns {
-        if same_name(column.name.as_slice(), name) {
-            return column.coll.is_none();
-        }
+    match columns.get(number as usize) {
+        Some(column) => column.coll.is_none(),
+        None => false,
     }
-    false
 }
 
-fn integer_beside_keys(table: &TableText, taken: &[&ConstraintText]) -> bool
-    requires { map (λ k. constraint_seen table.now.columns.items k.now) taken.now
+fn integer_beside_keys(
+    alloc: Global,
+    table: &TableText,
+    index: &Index,
+    taken: &[&ConstraintText],
+) -> Result<bool, AllocError>
+    requires index { IsIndex table.now.columns.items index.now }
+    requires taken { map (λ k. constraint_seen table.now.columns.items k.now) taken.now
         ≡ numbered_of (seen table.now) }
-    ensures { result ≡ integer_beside_keys (seen table.now) }
+    ensures { IfOk result (λ b. b ≡ integer_beside_keys (seen table.now)) }
 {
-    table.without_rowid && taken.len() > 1 && has_integer_primary(table)
+    if table.without_rowid && taken.len() > 1 {
+        has_integer_primary(alloc, table, index)
+    } else {
+        Ok(false)
+    }
 }
 
-fn has_integer_primary(table: &TableText) -> bool
-    ensures { result ≡ list_any (λ c. c.primary && single_integer table.now.columns.items c)
-        (constraints_seen table.now.columns.items table.now.constraints.items) }
+fn has_integer_primary(alloc: Global, table: &TableText, index: &Index) -> Result<bool, AllocError>
+    requires { IsIndex table.now.columns.items index.now }
+    ensures { IfOk result (λ b. b
+        ≡ list_any (λ c. c.primary && single_integer table.now.columns.items c)
+        (constraints_seen table.now.columns.items table.now.constraints.items)) }
 {
     let columns = table.columns.as_slice();
     for c in table.constraints.as_slice() {
-        if c.primary && single_integer(columns, c) {
-            return true;
+        if c.primary {
+            let is_integer = single_integer(alloc, columns, index, c)?;
+            if is_integer {
+                return Ok(true);
+            }
         }
     }
-    false
+    Ok(false)
 }
 
 fn unique_before(table: &TableText, taken: &[&ConstraintText]) -> bool

@@ -9,6 +9,7 @@ mod laws;
 mod meaning;
 mod names;
 mod numbers;
+mod places;
 mod reading;
 mod texts;
 

@@ -1,11 +1,13 @@
 //! Which constraints take a number.
 
-ghost use Rattle.std.specs.Prelude.{◌≡◌, IfOk, List, false, map, option_map};
+ghost use Rattle.std.specs.Prelude.{◌≡◌, IfOk, List, false, map, option_map, slice_get};
 ghost use Rattle.std.specs.List.{list_any};
-ghost use Rattle.create_reader.specs.Numbers.{column_named, integer_in, is_among, makes_alias, numbered_of, only_column, same_names, single_column, single_integer, takes, up_to_16};
+ghost use Rattle.create_reader.specs.Numbers.{integer_in, is_among, makes_alias, numbered_of, only_column, same_names, single_integer, takes, up_to_16};
 ghost use Rattle.create_reader.specs.Constraints.{Constraint};
+ghost use Rattle.create_reader.specs.Index.{IsIndex};
 ghost use Rattle.create_reader.specs.Views.{IsKnown, constraint_seen, is_of, seen};
 
+use crate::places::{Index, place};
 use crate::texts::{ColumnText, ConstraintText, KeyNames, TableText};
 use record_core::Bytes;
 use std::alloc::{AllocError, Global};
@@ -15,7 +17,9 @@ use table_shape::same_name;
 pub fn numbered<'a>(
     alloc: Global,
     table: &'a TableText,
+    index: &Index,
 ) -> Result<Option<Vec<&'a ConstraintText>>, AllocError>
+    requires { IsIndex table.now.columns.items index.now }
     ensures { IfOk result (λ found.
         option_map (λ v. map (λ k. constraint_seen table.now.columns.items k.now) v.items) found
         ≡ up_to_16 (numbered_of (seen table.now))) }
@@ -23,8 +27,9 @@ pub fn numbered<'a>(
     let mut found = Vec::new(alloc);
     let mut known = None;
     for constraint in table.constraints.as_slice() {
-        if !takes(table, found.as_slice(), known, constraint) {
-            known = known_behind(table, known, constraint);
+        let is_new = takes(alloc, table, index, found.as_slice(), known, constraint)?;
+        if !is_new {
+            known = known_behind(alloc, table, index, known, constraint)?;
             continue;
         }
         if found.len() == 16 {
@@ -37,84 +42,114 @@ pub fn numbered<'a>(
 
 // Whether a constraint takes a number. A constraint of the column `known` has the names of one that took one.
 fn takes(
+    alloc: Global,
     table: &TableText,
+    index: &Index,
     taken: &[&ConstraintText],
     known: Option<usize>,
     c: &ConstraintText,
-) -> bool
-    requires { IsKnown table.now.columns.items
+) -> Result<bool, AllocError>
+    requires index { IsIndex table.now.columns.items index.now }
+    requires known { IsKnown table.now.columns.items
         (map (λ k. constraint_seen table.now.columns.items k.now) taken.now) known }
-    ensures { result ≡ takes (seen table.now)
+    ensures { IfOk result (λ b. b ≡ takes (seen table.now)
         (map (λ k. constraint_seen table.now.columns.items k.now) taken.now)
-        (constraint_seen table.now.columns.items c.now) }
+        (constraint_seen table.now.columns.items c.now)) }
 {
-    (c.primary && table.without_rowid)
-        || (!makes_alias(table, c) && !is_among(table.columns.as_slice(), taken, known, c))
+    if c.primary && table.without_rowid {
+        return Ok(true);
+    }
+    let makes_alias = makes_alias(alloc, table, index, c)?;
+    Ok(!makes_alias && !is_among(table.columns.as_slice(), taken, known, c))
 }
 
 // The column whose constraints are known to take no number, behind a constraint that takes none: its own column, unless
 // it makes that the rowid.
-fn known_behind(table: &TableText, known: Option<usize>, c: &ConstraintText) -> Option<usize>
-    ensures { (taken : List Constraint) → IsKnown table.now.columns.items taken known
+fn known_behind(
+    alloc: Global,
+    table: &TableText,
+    index: &Index,
+    known: Option<usize>,
+    c: &ConstraintText,
+) -> Result<Option<usize>, AllocError>
+    requires { IsIndex table.now.columns.items index.now }
+    ensures { IfOk result (λ column. (taken : List Constraint)
+        → IsKnown table.now.columns.items taken known
         → takes (seen table.now) taken (constraint_seen table.now.columns.items c.now) ≡ false
-        → IsKnown table.now.columns.items taken result }
+        → IsKnown table.now.columns.items taken column) }
 {
     match &c.names {
         KeyNames::OfColumn(number) => {
-            if makes_alias(table, c) {
-                known
+            if makes_alias(alloc, table, index, c)? {
+                Ok(known)
             } else {
-                Some(*number)
+                Ok(Some(*number))
             }
         }
-        KeyNames::Listed(_) => known,
+        KeyNames::Listed(_) => Ok(known),
     }
 }
 
 /// Whether the constraint makes its column the rowid.
-pub fn makes_alias(table: &TableText, c: &ConstraintText) -> bool
-    ensures { result ≡ makes_alias (seen table.now) (constraint_seen table.now.columns.items c.now) }
+pub fn makes_alias(
+    alloc: Global,
+    table: &TableText,
+    index: &Index,
+    c: &ConstraintText,
+) -> Result<bool, AllocError>
+    requires { IsIndex table.now.columns.items index.now }
+    ensures { IfOk result (λ b. b
+        ≡ makes_alias (seen table.now) (constraint_seen table.now.columns.items c.now)) }
 {
-    c.primary && !table.without_rowid && single_integer(table.columns.as_slice(), c)
+    if c.primary && !table.without_rowid {
+        single_integer(alloc, table.columns.as_slice(), index, c)
+    } else {
+        Ok(false)
+    }
 }
 
 /// Whether the constraint has one column, and its type is INTEGER.
-pub fn single_integer(columns: &[ColumnText], c: &ConstraintText) -> bool
-    ensures { result ≡ single_integer columns.now (constraint_seen columns.now c.now) }
+pub fn single_integer(
+    alloc: Global,
+    columns: &[ColumnText],
+    index: &Index,
+    c: &ConstraintText,
+) -> Result<bool, AllocError>
+    requires { IsIndex columns.now index.now }
+    ensures { IfOk result (λ b. b ≡ single_integer columns.now (constraint_seen columns.now c.now)) }
 {
-    single_is_integer(columns, c.own, c.names(columns))
-}
-
-fn single_is_integer(columns: &[ColumnText], own: Option<usize>, names: &[Bytes]) -> bool
-    ensures { result ≡ integer_in (single_column columns.now own names.now) }
-{
-    match own {
-        Some(number) => match columns.get(number) {
-            Some(column) => column.integer,
-            None => false,
-        },
-        None => only_is_integer(columns, names),
+    match c.own {
+        Some(number) => Ok(is_integer(columns, number)),
+        None => only_is_integer(alloc, columns, index, c.names(columns)),
     }
 }
 
-fn only_is_integer(columns: &[ColumnText], names: &[Bytes]) -> bool
-    ensures { result ≡ integer_in (only_column columns.now names.now) }
+fn is_integer(columns: &[ColumnText], number: usize) -> bool
+    ensures { result ≡ integer_in (slice_get columns.now number) }
+{
+    match columns.get(number) {
+        Some(column) => column.integer,
+        None => false,
+    }
+}
+
+#[tactic(auto, using(crate::proofs::Lookup::column_at))]
+fn only_is_integer(
+    alloc: Global,
+    columns: &[ColumnText],
+    index: &Index,
+    names: &[Bytes],
+) -> Result<bool, AllocError>
+    requires { IsIndex columns.now index.now }
+    ensures { IfOk result (λ b. b ≡ integer_in (only_column columns.now names.now)) }
 {
     match names {
-        [name] => named_is_integer(columns, name.as_slice()),
-        [] | [_, _, ..] => false,
-    }
-}
-
-fn named_is_integer(columns: &[ColumnText], name: &[u8]) -> bool
-    ensures { result ≡ integer_in (column_named columns.now name.now) }
-{
-    for column in columns {
-        if same_name(column.name.as_slice(), name) {
-            return column.integer;
+        [name] => {
+            let number = place(alloc, columns, index, name.as_slice())?;
+            Ok(is_integer(columns, number as usize))
         }
+        [] | [_, _, ..] => Ok(false),
     }
-    false
 }
 
 fn is_among(

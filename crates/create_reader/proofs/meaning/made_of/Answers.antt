@@ -1,4 +1,4 @@
-use Rattle.std.proofs.Common.{◌≡◌, sym, ap, ◌∙◌, arith, rules, false, map, option_map}
+use Rattle.std.proofs.Common.{◌≡◌, sym, ap, ◌∙◌, arith, false, is_none, map, option_map}
 use Rattle.create_reader.specs.Faults.{key_fault}
 use Rattle.create_reader.specs.Meaning.{keys_from}
 use Rattle.create_reader.specs.Views.{constraint_seen, seen}
@@ -12,12 +12,12 @@ returns c =
     let few = c.if-len-gt1996.false in
     let given = ap (option_map (λ v. map (λ k. constraint_seen c.args.table.now.columns.items k.now) v.items)) (sym c.in-Ok-Some.field-0-is)
     ∙ c.in-Ok-Some.ensures in
-    let none : key_fault t ≡ false = search rules in
+    let none : key_fault t ≡ false = sym c.in-Ok-Some-key_lists.ensures.fault ∙ ap is_none c.in-Ok-Some-key_lists.field-0-is in
     record {
       sound = sound_made t _ c.if-table.false (omega (arith, len, few)) given none;
-      alias = c.alias_of.ensures;
-      primary = c.in-Ok.ensures;
+      alias = c.in-Ok-alias_of.ensures;
+      primary = c.in-Ok-primary_of.ensures;
       keys = c.in-Ok-keys.ensures ∙ ap (keys_from t 1)
-          (ap (map (λ k. constraint_seen t.columns k.now)) c.as_slice-3.ensures.value ∙ few_taken _ _ given);
+          (ap (map (λ k. constraint_seen t.columns k.now)) c.as_slice-5.ensures.value ∙ few_taken _ _ given);
       auto = c.has_auto.ensures;
     }

@@ -3,5 +3,5 @@ use Rattle.create_reader.specs.Meaning.{primary_in}
 use Rattle.create_reader.specs.Views.{constraint_seen}
 use Rattle.create_reader.proofs.meaning.primary_in.Given as goal
 
-abbrev pub invariant-loop-c : goal.invariant-loop-c
-invariant-loop-c l = primary_in l.columns (map (λ k. constraint_seen l.columns k.now) (drop l.c-index l.taken)) ≡ primary_in l.columns (map (λ k. constraint_seen l.columns k.now) l.taken)
+abbrev pub invariant-loop-i : goal.invariant-loop-i
+invariant-loop-i l = primary_in l.columns (map (λ k. constraint_seen l.columns k.now) (drop l.i l.taken)) ≡ primary_in l.columns (map (λ k. constraint_seen l.columns k.now) l.taken)

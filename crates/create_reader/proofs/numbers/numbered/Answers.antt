@@ -5,38 +5,38 @@ use Rattle.create_reader.specs.Views.{constraint_seen, seen}
 use Rattle.create_reader.proofs.Known.{constraint_here, one_longer, over_16, still_known, taken_in, taken_out}
 use Rattle.create_reader.proofs.numbers.numbered.Goals as goal
 
-pub loop-constraint-preserved-then-not-takes : goal.loop-constraint-preserved-then-not-takes
-loop-constraint-preserved-then-not-takes c =
+pub loop-constraint-preserved-then-not-is_new : goal.loop-constraint-preserved-then-not-is_new
+loop-constraint-preserved-then-not-is_new c =
     let columns = c.args.table.now.columns.items in
     let here = constraint_here columns _ c.loop-constraint.constraint-index c.constraint-item.result c.loop-constraint-test.true c.constraint-item.is in
-    let taken = c.takes.ensures
+    let taken = c.in_ok-is_new.ensures
     ∙ ap (λ z. takes (seen c.args.table.now) (map (λ k. constraint_seen columns k.now) z) (constraint_seen columns c.constraint-item.result)) c.as_slice.ensures.value in
-    let off : c.takes.result ≡ false = search rules in (
+    let off : c.in_ok-is_new.is_new ≡ false = search rules in (
       c.loop-constraint.invariant.0,
-      c.known_behind-known.ensures _ c.loop-constraint.invariant.1 (sym taken ∙ off),
-      taken_out (seen c.args.table.now) _ _ _ _ (constraint_seen columns c.constraint-item.result) c.takes.result taken off here c.loop-constraint.invariant.2,
+      c.in_ok-known.ensures _ c.loop-constraint.invariant.1 (sym taken ∙ off),
+      taken_out (seen c.args.table.now) _ _ _ _ (constraint_seen columns c.constraint-item.result) c.in_ok-is_new.is_new taken off here c.loop-constraint.invariant.2,
     )
 
 pub returns-then-len-eq16 : goal.returns-then-len-eq16
 returns-then-len-eq16 c =
     let columns = c.args.table.now.columns.items in
     let here = constraint_here columns _ c.loop-constraint.constraint-index c.constraint-item.result c.loop-constraint-test.true c.constraint-item.is in
-    let taken = c.takes.ensures
+    let taken = c.in_ok-is_new.ensures
     ∙ ap (λ z. takes (seen c.args.table.now) (map (λ k. constraint_seen columns k.now) z) (constraint_seen columns c.constraint-item.result)) c.as_slice.ensures.value in
-    let on : c.takes.result ≡ true = search rules in
+    let on : c.in_ok-is_new.is_new ≡ true = search rules in
     let count = length-map c.loop-constraint.found.items (λ k. constraint_seen columns k.now) in
     let len = c.len.ensures in
     let full = c.if-len-eq16.true in
-    over_16 (seen c.args.table.now) _ _ _ _ (constraint_seen columns c.constraint-item.result) c.takes.result taken on here
+    over_16 (seen c.args.table.now) _ _ _ _ (constraint_seen columns c.constraint-item.result) c.in_ok-is_new.is_new taken on here
     (omega (arith, count, len, full)) c.loop-constraint.invariant.2
 
 pub loop-constraint-preserved : goal.loop-constraint-preserved
 loop-constraint-preserved c =
     let columns = c.args.table.now.columns.items in
     let here = constraint_here columns _ c.loop-constraint.constraint-index c.constraint-item.result c.loop-constraint-test.true c.constraint-item.is in
-    let taken = c.takes.ensures
+    let taken = c.in_ok-is_new.ensures
     ∙ ap (λ z. takes (seen c.args.table.now) (map (λ k. constraint_seen columns k.now) z) (constraint_seen columns c.constraint-item.result)) c.as_slice.ensures.value in
-    let on : c.takes.result ≡ true = search rules in
+    let on : c.in_ok-is_new.is_new ≡ true = search rules in
     let items = c.in_ok-push.ensures.items in
     let more = ap (map (λ k. constraint_seen columns k.now)) items ∙ map-append (λ k. constraint_seen columns k.now) c.loop-constraint.found.items (_ ∷ []) in
     let longer = one_longer _ _ _ items in
@@ -45,5 +45,5 @@ loop-constraint-preserved c =
     let apart = c.if-len-eq16.false in (
       omega (arith, longer, small, len, apart),
       still_known columns _ _ _ _ more c.loop-constraint.invariant.1,
-      taken_in (seen c.args.table.now) _ _ _ _ _ (constraint_seen columns c.constraint-item.result) c.takes.result taken on here more c.loop-constraint.invariant.2,
+      taken_in (seen c.args.table.now) _ _ _ _ _ (constraint_seen columns c.constraint-item.result) c.in_ok-is_new.is_new taken on here more c.loop-constraint.invariant.2,
     )

@@ -2,6 +2,7 @@
 use Rattle.std.proofs.Common.{◌≡◌, ◌≤◌, ◌⊎◌, inl, inr, ℕ, zero, suc, ◌+◌, Bool, true, false, ◌&&◌, ◌||◌, List, [], ◌∷◌, nat_le, refl, arith}
 use Rattle.std.specs.Prelude.{if◌then◌else◌, Result, Ok, Err}
 use Rattle.std.specs.List.{AllByRecursion, list_all}
+use Rattle.std.proofs.lemmas.Bool.{and_parts}
 use Rattle.std.proofs.lemmas.Bool.Decides.{nat_tests}
 use Rattle.cell_reader.specs.declared.cells.CellView.{CellView}
 use Rattle.cell_reader.specs.declared.cells.CellFault.{CellFault}
@@ -26,15 +27,11 @@ firsts_of v held (x ∷ xs) h = let rest = firsts_of v held xs h.1 in ((h.0.0, r
 two_sides : (v w : CellView) → are_apart v w ≡ true → (w.end ≤ v.start) ⊎ (v.end ≤ w.start)
 two_sides v w h = grind (arith, nat_tests)
 
-and_true : (a b : Bool) → (a && b) ≡ true → (a ≡ true) × (b ≡ true)
-and_true true b h = (refl, h)
-and_true false b h = cc
-
 apart_from_all : (i : ℕ) (v : CellView) (held : List CellView) → list_all (are_apart v) held ≡ true
     → AllByRecursion (λ h. FromView h (i, v)) held
 apart_from_all i v [] h = tt
 apart_from_all i v (w ∷ held) h =
-    let two = and_true (are_apart v w) (list_all (are_apart v) held) h in
+    let two = and_parts (are_apart v w) (list_all (are_apart v) held) h in
     (two_sides v w two.0, apart_from_all i v held two.1)
 
 -- what a verdict says of the held cells

@@ -3,6 +3,7 @@ use Rattle.std.proofs.Common.{length-append, length-drop, ◌≡◌, ◌<◌, �
 use Rattle.std.specs.Prelude.{if◌then◌else◌, IfOk, Result, Ok, Err}
 use Rattle.std.specs.Cmp.{both_ways}
 use Rattle.std.specs.List.{AllByRecursion, list_all, list_any, slice_range}
+use Rattle.std.proofs.lemmas.Bool.{and_parts, cases_Bool, or_parts}
 use Rattle.std.proofs.lemmas.Bool.Decides.{nat_tests}
 use Rattle.std.proofs.lemmas.List.{length-replicate, get_or-take, get_or-drop, get_or-append_right, get_or-replicate, length-take}
 use Rattle.std.proofs.Math.ListN.{get_or-append}
@@ -10,10 +11,6 @@ use Rattle.cell_reader.specs.declared.cells.CellView.{CellView}
 use Rattle.cell_reader.specs.declared.cells.CellFault.{CellFault}
 use Rattle.cell_reader.specs.Cover.{is_free, with_range, covers, IsRange, Covers, marked_on, marks_with, marked_from}
 use Rattle.cell_reader.specs.Screen.{Verdict, Accepts, Faulty, Overlaps, are_apart, verdict_on, held_with, screened_from}
-
-either : (b : Bool) → (b ≡ true) ⊎ (b ≡ false)
-either true = inl refl
-either false = inr refl
 
 -- a list of marks, none of which is set
 unset : (xs : List Bool) → list_all not xs ≡ true → (k : ℕ) → k < length xs → get_or xs k false ≡ false
@@ -52,7 +49,7 @@ pub set_mark : (m : List Bool) (s e k : ℕ) → s < e → e ≤ length m
 set_mark m s e k lt le =
     let rest : List Bool = replicate (e - s) true ++ drop e m in
     let first : length (take s m) ≡ s = omega (arith, length-take s m) in
-    elim (either (nat_le s k)) [
+    elim (cases_Bool (nat_le s k)) [
       | inr low ↦
           let before : k < s = grind (arith, nat_tests) in
           let c : (nat_le s k && nat_lt k e) ≡ false = grind (arith, nat_tests) in
@@ -64,7 +61,7 @@ set_mark m s e k lt le =
           let l : get_or (take s m ++ rest) k false ≡ get_or rest (k - s) false =
           get_or-append_right (take s m) rest s k false first behind in
           let many : length (replicate (e - s) true) ≡ e - s = length-replicate (e - s) true in
-          elim (either (nat_lt k e)) [
+          elim (cases_Bool (nat_lt k e)) [
             | inl inside ↦
                 let near : k - s < e - s = grind (arith, nat_tests) in
                 let c : (nat_le s k && nat_lt k e) ≡ true = grind (arith, nat_tests) in
@@ -95,18 +92,10 @@ length_set m s e lt le =
       length-drop e m,
     )
 
-or_false : (a b : Bool) → (a || b) ≡ false → (a ≡ false) × (b ≡ false)
-or_false true b h = cc
-or_false false b h = (refl, h)
-
-and_true : (a b : Bool) → (a && b) ≡ true → (a ≡ true) × (b ≡ true)
-and_true true b h = (refl, h)
-and_true false b h = cc
-
 -- two ranges that are not apart share a byte
 shared : (v w : CellView) → v.start < v.end → w.start < w.end → are_apart v w ≡ false
     → (k : ℕ) × (v.start ≤ k) × (k < v.end) × (covers k w ≡ true)
-shared v w a b h = elim (either (nat_le v.start w.start)) [
+shared v w a b h = elim (cases_Bool (nat_le v.start w.start)) [
   | inl e ↦ (w.start, grind (arith, nat_tests), grind (arith, nat_tests), grind (arith, nat_tests))
   | inr e ↦ (v.start, grind (arith, nat_tests), grind (arith, nat_tests), grind (arith, nat_tests))
 ]
@@ -117,12 +106,12 @@ apart_all : (usable : ℕ) (v : CellView) (ws : List CellView) → v.start < v.e
 apart_all usable v [] lt good h = refl
 apart_all usable v (w ∷ ws) lt good h =
     let tail : list_all (are_apart v) ws ≡ true =
-    apart_all usable v ws lt good.1 (λ k a b. (or_false (covers k w) (list_any (covers k) ws) (h k a b)).1) in
-    elim (either (are_apart v w)) [
+    apart_all usable v ws lt good.1 (λ k a b. (or_parts (covers k w) (list_any (covers k) ws) (h k a b)).1) in
+    elim (cases_Bool (are_apart v w)) [
       | inl e ↦ rw (e, tail) refl
       | inr e ↦
           let hit = shared v w lt good.0.0 e in
-          let none : covers hit.0 w ≡ false = (or_false (covers hit.0 w) (list_any (covers hit.0) ws) (h hit.0 hit.1 hit.2)).0 in
+          let none : covers hit.0 w ≡ false = (or_parts (covers hit.0 w) (list_any (covers hit.0) ws) (h hit.0 hit.1 hit.2)).0 in
           let some : covers hit.0 w ≡ true = hit.3 in
           let bad : true ≡ false = sym some ∙ none in cc
     ]
@@ -132,7 +121,7 @@ uncovered : (v : CellView) (ws : List CellView) → list_all (are_apart v) ws �
     → (k : ℕ) → v.start ≤ k → k < v.end → list_any (covers k) ws ≡ false
 uncovered v [] h k a b = refl
 uncovered v (w ∷ ws) h k a b =
-    let apart = and_true (are_apart v w) (list_all (are_apart v) ws) h in
+    let apart = and_parts (are_apart v w) (list_all (are_apart v) ws) h in
     let here : covers k w ≡ false = missed v w k apart.0 a b in
     rw (here, uncovered v ws apart.1 k a b) refl
   where

@@ -2,6 +2,7 @@
 use Rattle.std.proofs.Common.{◌⊎◌, inl, inr, ◌%◌, ◌≡◌, ◌<◌, ◌≤◌, ℕ, zero, suc, ◌+◌, ◌-◌, ◌*◌, Bool, true, false, Option, Some, None, List, [], ◌∷◌, length, take, drop, refl, arith, length-drop, length-take}
 use Rattle.std.specs.Prelude.{nat_lt, nat_le, ◌||◌, ◌==◌, if◌then◌else◌, IfSome, IfOk, Result, Ok, Err, replicate}
 use Rattle.std.specs.List.{slice_range}
+use Rattle.std.proofs.lemmas.Bool.{cases_Bool}
 use Rattle.std.proofs.lemmas.Bool.Decides.{nat_tests}
 use Rattle.varint_core.specs.Varint.{varint_from, varint_at}
 use Rattle.cell_reader.specs.declared.shapes.Kind.{Kind}
@@ -17,10 +18,6 @@ use Rattle.cell_reader.specs.Screen.{verdicts}
 use Rattle.cell_reader.proofs.Marks.{covers_none, marked_screened}
 use Rattle.cell_reader.proofs.Places.{range_fits}
 
-either : (b : Bool) → (b ≡ true) ⊎ (b ≡ false)
-either true = inl refl
-either false = inr refl
-
 -- a varint has a byte, and the bytes have all of it
 abbrev pub Within : ℕ → ℕ × ℕ → Type 0
 Within len v = (1 ≤ v.1) × (v.1 ≤ len)
@@ -28,9 +25,9 @@ Within len v = (1 ≤ v.1) × (v.1 ≤ len)
 varint_from_within : (k high : ℕ) (s : List ℕ) → IfSome (varint_from k high s) (λ v. (k < v.1) × (v.1 ≤ k + length s))
 varint_from_within k high [] = tt
 varint_from_within k high (b ∷ s) =
-    elim (either (k == 8)) [
+    elim (cases_Bool (k == 8)) [
       | inl e ↦ rw e (grind (arith, nat_tests), grind (arith, nat_tests))
-      | inr e ↦ rw e (elim (either (nat_lt b 128)) [
+      | inr e ↦ rw e (elim (cases_Bool (nat_lt b 128)) [
         | inl f ↦ rw f (omega arith, omega arith)
         | inr f ↦ rw f (later (varint_from (k + 1) (high * 128 + b % 128) s)
             (varint_from_within (k + 1) (high * 128 + b % 128) s))
@@ -77,7 +74,7 @@ numbers_within : (kind : Kind) (leaf : Bool) (bytes : List ℕ) → IfSome (numb
 unfolding numbers_of
 numbers_within kind true bytes = behind_within kind true None 0 bytes (omega arith)
 numbers_within kind false bytes =
-    elim (either (nat_lt (length bytes) 4)) [
+    elim (cases_Bool (nat_lt (length bytes) 4)) [
       | inl e ↦ rw e tt
       | inr e ↦ rw e (behind_within kind false _ 4 bytes (grind (arith, nat_tests)))
     ]
@@ -91,12 +88,12 @@ payload_sized : (usable : ℕ) (kind : Kind) (bytes : List ℕ) (n : Numbers) (t
 unfolding with_payload
 payload_sized usable kind bytes n total taken =
     let more : n.len ≤ size_of n.len (local_len kind usable total) total =
-    elim (either (local_len kind usable total == total)) [
+    elim (cases_Bool (local_len kind usable total == total)) [
       | inl e ↦ rw e (omega arith)
       | inr e ↦ rw e (omega arith)
     ] in
     let some : 0 < n.len = taken.0 in
-    elim (either (nat_lt (length bytes) (size_of n.len (local_len kind usable total) total))) [
+    elim (cases_Bool (nat_lt (length bytes) (size_of n.len (local_len kind usable total) total))) [
       | inl e ↦ rw e tt
       | inr e ↦ rw e (omega arith, grind (arith, nat_tests))
     ]
@@ -110,7 +107,7 @@ parts_sized usable limit kind leaf bytes = from (numbers_of kind leaf bytes) (nu
         → IfOk (parts_with usable limit kind bytes n total) (Sized (length bytes))
     with n None taken = taken
     with n (Some total) taken =
-        elim (either ((total == 0) || nat_lt limit total)) [
+        elim (cases_Bool ((total == 0) || nat_lt limit total)) [
           | inl e ↦ rw e tt
           | inr e ↦ rw e (payload_sized usable kind bytes n total taken)
         ]
@@ -135,7 +132,7 @@ pub cell_range : (page : List ℕ) (usable pages : ℕ) (shape : PageShape) (i :
     → IfOk (cell_of page usable pages shape i) (IsRange usable)
 unfolding cell_of
 cell_range page usable pages shape i =
-    elim (either (nat_lt (pointer_of page shape i) shape.array_end || nat_le usable (pointer_of page shape i))) [
+    elim (cases_Bool (nat_lt (pointer_of page shape i) shape.array_end || nat_le usable (pointer_of page shape i))) [
       | inl e ↦ rw e tt
       | inr e ↦ rw e (view_range usable (pointer_of page shape i) _ _
           (range_fits page (pointer_of page shape i) usable

@@ -2,6 +2,7 @@
 use Rattle.std.proofs.Common.{◌≡◌, ◌≢◌, ◌<◌, ◌≤◌, ◌⊎◌, inl, inr, ℕ, ◌+◌, ◌-◌, ◌*◌, Bool, true, false, ◌||◌, ◌==◌, Option, Some, None, Result, Ok, Err, List, [], ◌∷◌, ◌++◌, length, drop, take, nat_lt, nat_le, if◌then◌else◌, refl, sym, ap, subst, ◌∙◌, arith, append_assoc, append-nil, length-append, length-take, length-drop, drop_at, drop-drop, take_at, take-append-drop, eq-eqb, eqb-true, ltb-false}
 use Rattle.std.specs.Prelude.{IfSome}
 use Rattle.std.specs.Bool.{MatchBool}
+use Rattle.std.proofs.lemmas.Option.{none-some, same_Some}
 use Rattle.std.proofs.lemmas.Bool.{cases_Bool, or_parts, true≢false}
 use Rattle.std.proofs.lemmas.Bool.Decides.{nat_tests}
 use Rattle.byteorder.specs.Endian.{big_number}
@@ -46,12 +47,6 @@ front_of bytes v e =
     let w : Within (length bytes) v = subst (λ (o : Option (ℕ × ℕ)). IfSome o (Within (length bytes))) e (varint_within bytes) in
     record { spelled = varint_found bytes v.0 v.1 e; long = omega (arith, length-take v.1 bytes, w.1) }
 
-none_some : {A : Type 0} (x : A) → None ≡ Some x → ⊥
-none_some x e = cc
-
-some_is : {A : Type 0} (x y : A) → Some x ≡ Some y → x ≡ y
-some_is x y e = cc
-
 -- the numbers of a table leaf
 leaf_read : (c : Option ℕ) (before tail : List ℕ) (n : Numbers) → numbers_behind Table true c (length before) (before ++ tail) ≡ Some n
     → Begins Table true c before tail n
@@ -61,13 +56,13 @@ leaf_read c before tail n e = at (varint_at (drop (length before) (before ++ tai
     second_at : (v : ℕ × ℕ) → varint_at tail ≡ Some v → (o : Option (ℕ × ℕ)) → varint_at (drop (length before + v.1) (before ++ tail)) ≡ o
         → and_varint o (λ rowid b. Some (record { child = c; rowid = Some rowid; total = Some v.0; len = length before + v.1 + b })) ≡ Some n
         → Begins Table true c before tail n
-    second_at v f None g e = absurd (none_some n e)
+    second_at v f None g e = absurd (none-some n e)
     second_at v f (Some w) g e =
         let a = front_of tail v f in
         let there : drop (length before + v.1) (before ++ tail) ≡ drop v.1 tail =
         sym (drop-drop v.1 (length before) (before ++ tail)) ∙ ap (drop v.1) (drop_at before tail (length before) refl) in
         let b = front_of (drop v.1 tail) w (ap varint_at (sym there) ∙ g) in
-        let is = some_is _ n e in
+        let is = same_Some _ n e in
         record {
           first = take v.1 tail;
           second = take w.1 (drop v.1 tail);
@@ -82,7 +77,7 @@ leaf_read c before tail n e = at (varint_at (drop (length before) (before ++ tai
         → and_varint o (λ total a. and_varint (varint_at (drop (length before + a) (before ++ tail))) (λ rowid b.
         Some (record { child = c; rowid = Some rowid; total = Some total; len = length before + a + b }))) ≡ Some n
         → Begins Table true c before tail n
-    at None f e = absurd (none_some n e)
+    at None f e = absurd (none-some n e)
     at (Some v) f e = second_at v (ap varint_at (sym (drop_at before tail (length before) refl)) ∙ f)
         (varint_at (drop (length before + v.1) (before ++ tail))) refl e
 
@@ -94,10 +89,10 @@ key_read c before tail n e = at (varint_at (drop (length before) (before ++ tail
     at : (o : Option (ℕ × ℕ)) → varint_at (drop (length before) (before ++ tail)) ≡ o
         → and_varint o (λ key a. Some (record { child = c; rowid = Some key; total = None; len = length before + a })) ≡ Some n
         → Begins Table false c before tail n
-    at None f e = absurd (none_some n e)
+    at None f e = absurd (none-some n e)
     at (Some v) f e =
         let a = front_of tail v (ap varint_at (sym (drop_at before tail (length before) refl)) ∙ f) in
-        let is = some_is _ n e in
+        let is = same_Some _ n e in
         record {
           first = [];
           second = take v.1 tail;
@@ -116,10 +111,10 @@ index_read leaf c before tail n e = at (varint_at (drop (length before) (before 
     at : (o : Option (ℕ × ℕ)) → varint_at (drop (length before) (before ++ tail)) ≡ o
         → and_varint o (λ total a. Some (record { child = c; rowid = None; total = Some total; len = length before + a })) ≡ Some n
         → Begins Index leaf c before tail n
-    at None f e = absurd (none_some n e)
+    at None f e = absurd (none-some n e)
     at (Some v) f e =
         let a = front_of tail v (ap varint_at (sym (drop_at before tail (length before) refl)) ∙ f) in
-        let is = some_is _ n e in
+        let is = same_Some _ n e in
         record {
           first = take v.1 tail;
           second = [];
@@ -156,7 +151,7 @@ opened kind true bytes n e = record {
   begins = behind_read kind true None [] bytes n e;
 }
 opened kind false bytes n e = elim (cases_Bool (nat_lt (length bytes) 4)) [
-  | inl short ↦ absurd (none_some n (rw short at e))
+  | inl short ↦ absurd (none-some n (rw short at e))
   | inr long ↦
       let f = rw long at e in
       let le : 4 ≤ length bytes = ltb-false (length bytes) 4 long in

@@ -1,6 +1,6 @@
 //! How an input is opened.
-ghost use Rattle.std.specs.Prelude.{◌≡◌, ◌≢◌, ◌≤◌, ◌+◌, ◌/◌, ◌^◌, ◌⊎◌, length, Some, IsTrue, IsErrOf, IfOk, IfSome, OnOk, if◌then◌else◌};
-ghost use Rattle.page_access.specs.Files.{IsWhole};
+ghost use Rattle.std.specs.Prelude.{◌≡◌, ◌≢◌, ◌≤◌, ◌+◌, ◌/◌, ◌⊎◌, length, Some, IsTrue, IsErrOf, IfOk, IfSome, OnOk, if◌then◌else◌};
+ghost use Rattle.page_access.specs.Files.{IsWhole, max_input};
 ghost use Rattle.page_access.specs.Outside.{HasCauseOf, KeepsSource};
 ghost use Rattle.page_access.specs.Pages.{is_page_size};
 ghost use Rattle.page_size.specs.Rule.{finding, is_scored};
@@ -10,9 +10,6 @@ use crate::faults::InputFault;
 use page_access::{ReadFault, Source};
 use page_size::{Found, Origin, find_geometry};
 use std::alloc::Global;
-
-/// The most bytes of an input.
-pub const MAX_INPUT: u64 = 1 << 28;
 
 /// An input that is not empty, cut into pages.
 #[derive(Clone, Copy, Debug)]
@@ -35,7 +32,7 @@ pub fn open_input<S: Source>(
     page_size: Option<u32>,
     reserved: Option<u8>,
 ) -> Result<Option<Input>, InputFault>
-    requires limit { limit ≤ 2 ^ 28 }
+    requires limit { limit ≤ max_input }
     requires size { IfSome page_size (λ s. IsTrue (is_page_size s)) }
     requires enough { IfSome page_size (λ s. IfSome reserved (λ r. r + 480 ≤ s)) }
     // opened
@@ -90,7 +87,7 @@ fn find_pages<S: Source>(
     page_size: Option<u32>,
     reserved: Option<u8>,
 ) -> Result<Option<Input>, InputFault>
-    requires limit { limit ≤ 2 ^ 28 }
+    requires limit { limit ≤ max_input }
     requires size { IfSome page_size (λ s. IsTrue (is_page_size s)) }
     requires enough { IfSome page_size (λ s. IfSome reserved (λ r. r + 480 ≤ s)) }
     ensures told { IfSome (S.bytes src.old)

@@ -5,7 +5,7 @@ mod faults;
 mod inputs;
 
 pub use faults::InputFault;
-pub use inputs::{Input, MAX_INPUT, is_utf16, open_input};
+pub use inputs::{Input, is_utf16, open_input};
 
 #[cfg(test)]
 mod tests;

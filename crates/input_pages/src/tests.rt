@@ -2,7 +2,7 @@
 ghost use Rattle.std.specs.Prelude.{◌≡◌, IfSome};
 
 use super::*;
-use page_access::{SparseSource, SureSource};
+use page_access::{MAX_INPUT, SparseSource, SureSource};
 use page_size::Origin;
 use std::alloc::{AllocError, Global};
 use std::process::Abort;

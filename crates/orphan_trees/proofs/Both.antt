@@ -14,6 +14,7 @@ use Rattle.page_lists.proofs.Counts.{count-append, count_in, length-minus}
 use Rattle.page_lists.proofs.Uses.{all_moved-append, unused-all_moved}
 use Rattle.page_walk.specs.Evidence.{AreOnce}
 use Rattle.page_walk.specs.Turns.{ReadsEach}
+use Rattle.page_walk.proofs.Fronts.{then_front}
 use Rattle.page_walk.proofs.Going.{always_told, both_told, one_told}
 use Rattle.page_walk.proofs.Witness.{unused_once}
 use Rattle.tree_uses.proofs.Parts.{part_then}
@@ -22,7 +23,7 @@ use Rattle.orphan_trees.specs.Passes.{found_in, unmarked, with_marks}
 use Rattle.orphan_trees.proofs.Lists.{at_most_one, count-filter, count_pages, filter-swap, page_of_unused}
 use Rattle.orphan_trees.proofs.Marking.{all_unmarked, unnamed_are}
 use Rattle.orphan_trees.proofs.Rule.{all_part, both_passes, found_pages, orphans_hold}
-use Rattle.orphan_trees.proofs.Sweeping.{front_more, front_none}
+use Rattle.orphan_trees.proofs.Sweeping.{front_none}
 use Rattle.orphan_trees.proofs.Walks.{orphan_parts}
 
 -- ---- the first roots
@@ -120,8 +121,8 @@ first_told o o1 geo t0 t marks e1 each same marked front =
     let pages : pages_in ts ++ pages_in later ≡ pages_in (orphan_trees f v) =
     ap (λ (ps : List ℕ). ps ++ pages_in later) (sym (found_pages ts)) ∙ sym (flat_map-append tree_pages (found_in ts) later)
     ∙ ap pages_in (passes_are f v u (unused_once t0 geo.pages each same) refl) in
-    front_more [] (pages_in ts) (pages_in later) (pages_in (orphan_trees f v)) 6 t0 t0 t refl pages
-    (subst (λ (rs : List ℕ). MovesFront (pages_in (trees_at f rs v)) 6 t0 t) (roots_first f v marks is) m)) marked front
+    then_front [] (pages_in ts) (pages_in later) (pages_in (orphan_trees f v)) 6 t0 t0 t refl
+    (subst (λ (rs : List ℕ). MovesFront (pages_in (trees_at f rs v)) 6 t0 t) (roots_first f v marks is) m) pages) marked front
 
 -- so have those of the first, and those of the second, or the first of them
 pub later_told : (o o1 o2 : Option (List ℕ)) (geo : Geometry) (t0 t1 t : Table) (marks none : List Bool) (first : List Orphan) → o1 ≡ o → o2 ≡ o
@@ -145,10 +146,10 @@ later_told (Some all) o1 o2 geo t0 t1 t marks none first e1 e2 each same marked 
     ap (λ (ps : List ℕ). pages_in first ++ ps) (sym (found_pages ts)) ∙ sym (flat_map-append tree_pages first (found_in ts))
     ∙ ap (λ (xs : List Orphan). pages_in (xs ++ found_in ts)) first_is
     ∙ ap pages_in (passes_are f v (unused t1) (unused_once t0 geo.pages each same) left) in
-    front_more (pages_in first) (pages_in ts) [] (pages_in (orphan_trees f v)) 6 t0 t1 t moved
-    (ap (λ (ps : List ℕ). pages_in first ++ ps) (append-nil (pages_in ts)) ∙ pages)
+    then_front (pages_in first) (pages_in ts) [] (pages_in (orphan_trees f v)) 6 t0 t1 t moved
     (subst (λ (rs : List ℕ). MovesFront (pages_in (trees_at f rs (unused t1))) 6 t1 t) (roots_later geo.pages none empty)
     (at (λ bytes. MovesFront (pages_in (trees_at (file_of bytes geo) (unmarked none (range_with_len 1 geo.pages)) (unused t1))) 6 t1 t) o2 all e2 two))
+    (ap (λ (ps : List ℕ). pages_in first ++ ps) (append-nil (pages_in ts)) ∙ pages)
   where
     at : (P : List ℕ → Type 0) (o' : Option (List ℕ)) (all : List ℕ) → o' ≡ Some all → IfSome o' P → P all
     at P o' all e holds = subst (λ (x : Option (List ℕ)). IfSome x P) e holds

@@ -8,6 +8,7 @@ use Rattle.std.proofs.lemmas.Bool.Decides.{eqb_tells}
 use Rattle.std.proofs.lemmas.Grind.{get_or-set_at}
 use Rattle.std.proofs.lemmas.List.{drop_more, get_or-replicate, get_or-set_other, length-replicate, length-set}
 use Rattle.std.proofs.lemmas.List.Elements.{filter-append}
+use Rattle.std.proofs.Math.Bool.{or-false}
 use Rattle.page_access.specs.Cache.{Cache, HasAll, IsCacheOf}
 use Rattle.page_access.specs.Files.{IsWhole, file_of}
 use Rattle.page_access.specs.Outside.{KeepsSource}
@@ -84,10 +85,6 @@ child_low f u q there =
     let is = (children_are_named f named.0 q).0 named.2 in
     leb-true 1 q (and_parts (nat_le 1 q) (nat_le q f.pages) is.of_file).0
 
-or_false : (b : Bool) → (b || false) ≡ b
-or_false true = refl
-or_false false = refl
-
 no_mark : (n p : ℕ) → 1 ≤ p → p ≤ n → has_mark (replicate n false) p ≡ false
 no_mark n p low high = get_or-replicate n (p - 1) false false (omega (arith, low, high))
 
@@ -98,7 +95,7 @@ unnamed_are f u =
     filter-range (λ p. not (has_mark (with_marks (orphan_children f u) (replicate f.pages false)) p)) (λ p. not (is_in p (orphan_children f u))) 1 f.pages
     (λ p low high. ap not
     (has_marks (orphan_children f u) (replicate f.pages false) p (child_low f u) low (omega (arith, high, length-replicate f.pages false))
-    ∙ ap (λ (b : Bool). is_in p (orphan_children f u) || b) (no_mark f.pages p low (omega (arith, high))) ∙ or_false (is_in p (orphan_children f u))))
+    ∙ ap (λ (b : Bool). is_in p (orphan_children f u) || b) (no_mark f.pages p low (omega (arith, high))) ∙ or-false (is_in p (orphan_children f u))))
 
 -- and all pages where there are no marks
 pub all_unmarked : (n : ℕ) → unmarked (replicate n false) (range_with_len 1 n) ≡ range_with_len 1 n

@@ -15,20 +15,13 @@ use Rattle.page_walk.specs.Pointers.{pointers_on}
 use Rattle.page_walk.specs.Taking.{is_of_kind}
 use Rattle.page_walk.specs.Walk.{children, kind_on, kinds_of, same_kind, walk}
 use Rattle.page_walk.proofs.Going.{both_told, one_told}
+use Rattle.page_walk.proofs.Found.{kind_of_page, wanted_is}
 use Rattle.tree_uses.specs.Trees.{walk_for}
 use Rattle.orphan_trees.specs.Orphans.{Orphan, is_orphan, tree_at}
 use Rattle.orphan_trees.specs.Passes.{children_at, kind_unused, with_marks}
 
 pub page_is : (n p : ℕ) → 1 ≤ p → p ≤ n → is_page n p ≡ true
 page_is n p low high = and_from (nat_le 1 p) (nat_le p n) (le-leb 1 p low) (le-leb p n high)
-
-kind_of_page : (f : File) (q : ℕ) → is_page f.pages q ≡ true → kind_at (kinds_of f) q ≡ kind_on f q
-unfolding kinds_of
-kind_of_page f q page =
-    let parts = and_parts (nat_le 1 q) (nat_le q f.pages) page in
-    let low : 1 ≤ q = leb-true 1 q parts.0 in
-    let high : q ≤ f.pages = leb-true q f.pages parts.1 in
-    get_or-map-range_with_len (kind_on f) 1 f.pages (q - 1) q None (omega arith) (omega arith)
 
 -- the kind that a survey gives is the page's
 pub kind_told : (o : Option (List ℕ)) (geo : Geometry) (ks : List (Option Kind)) (p : ℕ) (k : Option Kind) → 1 ≤ p → p ≤ geo.pages
@@ -76,14 +69,6 @@ walk_front o geo ks p z k u l old new low high surveyed is number moves =
     (subst (λ (x : ℤ). IfSome o (λ all. MovesFront (walk (file_of all geo) u x k) l old new)) number moves)
 
 -- ---- children of orphan pages
-
-wanted_is : (f : File) (kind : Kind) (q : ℕ)
-    → is_of_kind (kinds_of f) f.pages kind q ≡ (is_page f.pages q && same_kind (kind_on f q) (Some kind))
-wanted_is f kind q =
-    elim (cases_Bool (is_page f.pages q)) [
-      | inl so ↦ ap (λ (k : Option Kind). is_page f.pages q && same_kind k (Some kind)) (kind_of_page f q so)
-      | inr out ↦ rw out refl
-    ]
 
 -- the children of a page of the kind are the pages of the kind that it names
 children_are : (f : File) (kind : Kind) (p : ℕ) → kind_on f p ≡ Some kind

@@ -1,10 +1,8 @@
 -- Walks from the pages of a file, rising, and what is to come of them.
-use Rattle.std.proofs.Common.{◌≡◌, ◌<◌, ◌≤◌, ℕ, ◌+◌, ◌-◌, ◌*◌, Bool, true, false, not, List, [], ◌∷◌, ◌++◌, length, take, drop, refl, sym, ◌∙◌, ap, subst, arith, append_assoc, append-nil}
+use Rattle.std.proofs.Common.{◌≡◌, ◌<◌, ◌≤◌, ℕ, ◌+◌, ◌-◌, ◌*◌, Bool, true, false, not, List, [], ◌∷◌, ◌++◌, length, refl, sym, ◌∙◌, ap, subst, arith}
 use Rattle.std.specs.Prelude.{IfSome, if◌then◌else◌}
 use Rattle.std.specs.List.{AllByRecursion, range_with_len}
-use Rattle.std.proofs.Math.Seq.{take-append_seam}
 use Rattle.std.proofs.lemmas.Grind.{flat_map-append}
-use Rattle.std.proofs.lemmas.List.{take-append-drop}
 use Rattle.std.proofs.lemmas.List.Elements.{filter-append}
 use Rattle.page_access.specs.Cache.{HasAll, IsCacheOf}
 use Rattle.page_access.specs.Files.{file_of}
@@ -13,8 +11,8 @@ use Rattle.page_access.specs.declared.outside.Source as source
 use Rattle.page_lists.specs.Lists.{IsPartOf}
 use Rattle.page_lists.specs.Table.{MovesFront, Table, all_moved, unused}
 use Rattle.page_lists.proofs.Counts.{part_none}
-use Rattle.page_lists.proofs.Uses.{all_moved-append}
 use Rattle.page_walk.specs.Turns.{ReadsEach}
+use Rattle.page_walk.proofs.Fronts.{front_all, then_front}
 use Rattle.page_walk.proofs.Going.{both_told, one_told}
 use Rattle.page_walk.proofs.InTurn.{Moment, Stepped, Stepping, Steps, stepping_more, stepping_reads, stepping_start, stepping_value}
 use Rattle.tree_uses.proofs.Parts.{part_more}
@@ -135,19 +133,6 @@ sweeping_bound {geo = geo} was = subst (AllByRecursion (IsOrphanOf geo.pages)) (
 
 -- ---- at any exit
 
--- a front of pages that moved behind others
-pub front_more : (ds ps rest all : List ℕ) (l : ℕ) (a b c : Table) → b ≡ all_moved ds l a → ds ++ (ps ++ rest) ≡ all → MovesFront ps l b c → MovesFront all l a c
-front_more ds ps rest all l a b c first joined front =
-    let these : List ℕ = take front.0 ps in
-    let whole : all ≡ (ds ++ these) ++ (drop front.0 ps ++ rest) =
-    sym joined ∙ ap (λ (qs : List ℕ). ds ++ (qs ++ rest)) (sym (take-append-drop front.0 ps))
-    ∙ ap (λ (qs : List ℕ). ds ++ qs) (append_assoc these (drop front.0 ps) rest) ∙ sym (append_assoc ds these (drop front.0 ps ++ rest)) in
-    let taken : take (length (ds ++ these)) all ≡ ds ++ these =
-    ap (take (length (ds ++ these))) whole ∙ take-append_seam (ds ++ these) (drop front.0 ps ++ rest) in (
-      length (ds ++ these),
-      front.1 ∙ ap (all_moved these l) first ∙ sym (all_moved-append ds these l a) ∙ ap (λ (qs : List ℕ). all_moved qs l a) (sym taken),
-    )
-
 pub front_none : (ps : List ℕ) (l : ℕ) (a b : Table) → b ≡ a → MovesFront ps l a b
 front_none ps l a b same = (0, same)
 
@@ -164,10 +149,10 @@ sweeping_front {s = s} {geo} {marks} {i} {first} {now} new was lt none front =
     (λ all p m.
     let here : trees_at (file_of all geo) (roots_behind geo marks i) (unused now.table) ≡ trees_at (file_of all geo) ((i + 1) ∷ roots_behind geo marks (i + 1)) (unused now.table) =
     ap (λ (rs : List ℕ). trees_at (file_of all geo) rs (unused now.table)) (roots_kept geo marks i lt none) in
-    front_more (pages_in was.done) (tree_at (file_of all geo) (i + 1) (unused now.table)).pages _ (pages_in (trees_at (file_of all geo) (all_roots geo marks) (unused first.table)))
-    6 first.table now.table new was.steps.moved
+    then_front (pages_in was.done) (tree_at (file_of all geo) (i + 1) (unused now.table)).pages _ (pages_in (trees_at (file_of all geo) (all_roots geo marks) (unused first.table)))
+    6 first.table now.table new was.steps.moved m
     (sym (flat_map-append tree_pages was.done (trees_at (file_of all geo) ((i + 1) ∷ roots_behind geo marks (i + 1)) (unused now.table)))
-    ∙ ap (λ (ts : List Orphan). pages_in (was.done ++ ts)) (sym here) ∙ ap pages_in p) m)
+    ∙ ap (λ (ts : List Orphan). pages_in (was.done ++ ts)) (sym here) ∙ ap pages_in p))
     was.steps.value front
 
 -- all walks are done
@@ -177,8 +162,8 @@ pub sweeping_all : {S : Type 0} {s : source.Ghosts S} {geo : Geometry} {marks : 
 sweeping_all {s = s} {geo} {marks} {i} {first} {now} was end =
     one_told (λ all. was.done ≡ trees_at (file_of all geo) (all_roots geo marks) (unused first.table))
     (λ all. MovesFront (pages_in (trees_at (file_of all geo) (all_roots geo marks) (unused first.table))) 6 first.table now.table) (s.bytes first.src)
-    (λ all p. front_more (pages_in was.done) [] [] _ 6 first.table now.table now.table was.steps.moved
-    (append-nil (pages_in was.done) ∙ ap pages_in p) (front_none [] 6 now.table now.table refl)) (stepping_value was.steps (no_roots geo marks i end))
+    (λ all p. front_all (pages_in (trees_at (file_of all geo) (all_roots geo marks) (unused first.table))) 6 first.table now.table
+    (was.steps.moved ∙ ap (λ (ts : List Orphan). all_moved (pages_in ts) 6 first.table) p)) (stepping_value was.steps (no_roots geo marks i end))
 
 -- the reads at an exit
 pub sweeping_reads : {S : Type 0} {s : source.Ghosts S} {geo : Geometry} {marks : List Bool} {i : ℕ} {first now : Moment S} {found : List Orphan}

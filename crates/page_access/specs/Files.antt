@@ -1,7 +1,11 @@
 -- The file that bytes and a geometry make (docs/FORMAT.md, "Pages"; fileformat2.html, 1.2 and 1.3).
-use Rattle.std.specs.Prelude.{ℕ, ◌+◌, ◌*◌, ◌≤◌, Option, IfSome, List, length}
+use Rattle.std.specs.Prelude.{ℕ, ◌+◌, ◌*◌, ◌^◌, ◌≤◌, Option, IfSome, List, length}
 use Rattle.page_access.specs.Pages.{File}
 use Rattle.page_access.specs.declared.geometry.Geometry.{Geometry}
+
+-- the most bytes that an input may have
+abbrev pub max_input : ℕ
+max_input = 2 ^ 28
 
 -- the bytes, cut into pages as the geometry says
 abbrev pub file_of : List ℕ → Geometry → File

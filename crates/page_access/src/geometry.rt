@@ -2,6 +2,9 @@
 ghost use Rattle.std.specs.Prelude.{IsTrue, ◌+◌, ◌-◌, ◌^◌, ◌<◌, ◌≤◌};
 ghost use Rattle.page_access.specs.Pages.{is_page_size};
 
+/// The most bytes that an input may have.
+pub const MAX_INPUT: u64 = 1 << 28;
+
 /// How a file is cut into pages (fileformat2.html, 1.2 and 1.3): sizes are in bytes, pages are
 /// counted from 1. Bytes behind the last whole page belong to no page.
 #[derive(Clone, Copy, Debug)]

@@ -11,7 +11,7 @@ mod sources;
 mod sparse;
 
 pub use caches::PageCache;
-pub use geometry::Geometry;
+pub use geometry::{Geometry, MAX_INPUT};
 pub use limited::{NarrowSource, SlowSource};
 pub use loads::{load, read_front};
 pub use outside::{Failed, ReadFault, Sink, Source};

@@ -1,6 +1,7 @@
 //! How the pages of a file are found.
-ghost use Rattle.std.specs.Prelude.{◌≡◌, ◌≢◌, ◌≤◌, ◌<◌, ◌+◌, ◌*◌, ◌/◌, ◌^◌, ℕ, IsTrue, Some, None, IsErrOf, IfOk, IfSome, is_none, length, if◌then◌else◌};
+ghost use Rattle.std.specs.Prelude.{◌≡◌, ◌≢◌, ◌≤◌, ◌<◌, ◌+◌, ◌*◌, ◌/◌, ℕ, IsTrue, Some, None, IsErrOf, IfOk, IfSome, is_none, length, if◌then◌else◌};
 ghost use Rattle.std.specs.Option.{option_or};
+ghost use Rattle.page_access.specs.Files.{max_input};
 ghost use Rattle.page_access.specs.Outside.{HasCause, HasCauseOf, KeepsSource};
 ghost use Rattle.page_access.specs.Pages.{is_page_size};
 ghost use Rattle.page_size.specs.declared.finds.GeoFault.TheVariants.{Source, Memory};
@@ -137,7 +138,7 @@ fn scored_sizing<S: Source>(
     len: u64,
     reserved: Option<u8>,
 ) -> Result<Option<Sizing>, ReadFault>
-    requires { len ≤ 2 ^ 28 }
+    requires { len ≤ max_input }
     ensures value { IfOk result (λ o. IfSome (S.bytes src.old)
         (λ all. length all ≡ len → o ≡ scored_sizing all reserved)) }
     ensures usable { IfOk result (λ o. IfSome o (λ s. IsUsable s.size s.reserved)) }
@@ -184,7 +185,7 @@ fn sizing_of<S: Source>(
     page_size: Option<u32>,
     reserved: Option<u8>,
 ) -> Result<Option<Sizing>, ReadFault>
-    requires len { len ≤ 2 ^ 28 }
+    requires len { len ≤ max_input }
     requires header { header.now.size ≢ 0 → IsTrue (is_page_size header.now.size) }
     requires size { IfSome page_size (λ s. IsTrue (is_page_size s)) }
     requires enough { IfSome page_size (λ s. IfSome reserved (λ r. r + 480 ≤ s)) }
@@ -219,7 +220,7 @@ pub fn find_geometry<S: Source>(
     reserved: Option<u8>,
 ) -> Result<Found, GeoFault>
     requires len_least { 1 ≤ len }
-    requires len_most { len ≤ 2 ^ 28 }
+    requires len_most { len ≤ max_input }
     requires size { IfSome page_size (λ s. IsTrue (is_page_size s)) }
     requires enough { IfSome page_size (λ s. IfSome reserved (λ r. r + 480 ≤ s)) }
     ensures exact { IfSome (S.bytes src.old)

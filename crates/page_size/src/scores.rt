@@ -1,7 +1,8 @@
 //! How the page size is told from the pages.
-ghost use Rattle.std.specs.Prelude.{◌≡◌, ◌≤◌, ◌<◌, ◌+◌, ◌-◌, ◌*◌, ◌/◌, ◌^◌, List, length, map, is_ok, IsTrue, All, IfOk, IfSome, IfNone, OnOk, Some, nat_le, nat_lt, ◌&&◌};
+ghost use Rattle.std.specs.Prelude.{◌≡◌, ◌≤◌, ◌<◌, ◌+◌, ◌-◌, ◌*◌, ◌/◌, List, length, map, is_ok, IsTrue, All, IfOk, IfSome, IfNone, OnOk, Some, nat_le, nat_lt, ◌&&◌};
 ghost use Rattle.std.specs.List.{list_all, range_with_len};
 ghost use Rattle.std.specs.Option.{option_map};
+ghost use Rattle.page_access.specs.Files.{max_input};
 ghost use Rattle.page_access.specs.Outside.{HasCause, HasCauseOf, KeepsSource};
 ghost use Rattle.page_access.specs.Pages.{page_of};
 ghost use Rattle.cell_reader.specs.Shape.{shape_at, shape_of};
@@ -23,7 +24,7 @@ pub struct Score {
 
 /// The pages of a file of this length, where it has a whole one.
 pub fn geometry_of(len: u64, size: u32, reserved: u8) -> Option<Geometry>
-    requires len { len ≤ 2 ^ 28 }
+    requires len { len ≤ max_input }
     requires size { IsUsable size reserved }
     ensures found { IfSome result (λ g. IsCut len size reserved g.page_size g.usable g.pages) }
     ensures none { IfNone result (len < size) }
@@ -92,7 +93,7 @@ fn score_of<S: Source>(
     reserved: u8,
     page: &mut [u8],
 ) -> Result<u32, Failed>
-    requires len { len ≤ 2 ^ 28 }
+    requires len { len ≤ max_input }
     requires size { IsUsable size reserved }
     requires page { length page.old ≡ size }
     ensures value { IfOk result (λ n. IfSome (S.bytes src.old)
@@ -117,7 +118,7 @@ pub fn rank<S: Source>(
     reserved: u8,
     page: &mut [u8],
 ) -> Result<Vec<Score>, ReadFault>
-    requires len { len ≤ 2 ^ 28 }
+    requires len { len ≤ max_input }
     requires page { length page.old ≡ 65536 }
     ensures value { IfOk result (λ v. IfSome (S.bytes src.old)
         (λ all. length all ≡ len → v.items ≡ ranking all reserved)) }

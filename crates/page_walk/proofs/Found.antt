@@ -34,7 +34,7 @@ abbrev wanted : File → Kind → List ℕ → List ℕ
 wanted f kind qs = filter (is_of_kind (kinds_of f) f.pages kind) qs
 
 -- the kinds have the kind of each page
-kind_of_page : (f : File) (q : ℕ) → is_page f.pages q ≡ true → kind_at (kinds_of f) q ≡ kind_on f q
+pub kind_of_page : (f : File) (q : ℕ) → is_page f.pages q ≡ true → kind_at (kinds_of f) q ≡ kind_on f q
 unfolding kinds_of
 kind_of_page f q page =
     let parts = and_parts (nat_le 1 q) (nat_le q f.pages) page in
@@ -43,7 +43,7 @@ kind_of_page f q page =
     get_or-map-range_with_len (kind_on f) 1 f.pages (q - 1) q None (omega arith) (omega arith)
 
 -- whether a page is wanted, by its own kind
-wanted_is : (f : File) (kind : Kind) (q : ℕ)
+pub wanted_is : (f : File) (kind : Kind) (q : ℕ)
     → is_of_kind (kinds_of f) f.pages kind q ≡ (is_page f.pages q && same_kind (kind_on f q) (Some kind))
 wanted_is f kind q =
     elim (cases_Bool (is_page f.pages q)) [

@@ -27,7 +27,7 @@ use Rattle.page_walk.specs.Bounds.{Adds, IsSmall, Uses}
 use Rattle.page_walk.specs.Cells.{Outcome, chain_of, chains_of, outcome_at, outcome_of, outcomes_from, outcomes_in}
 use Rattle.page_walk.specs.Page.{screened_as}
 use Rattle.page_walk.specs.Turns.{ReadsEach}
-use Rattle.page_walk.proofs.Names.{marked_end, marked_step}
+use Rattle.page_walk.proofs.Names.{few_option, marked_end, marked_step}
 
 -- the outcomes that cells from i on will have
 abbrev pub to_come : List ℕ → Geometry → List ℕ → PageShape → ℕ → ℕ → List Bool → List ℕ → List Outcome
@@ -71,10 +71,6 @@ all_append P (x ∷ xs) ys h k = (h.0, all_append P xs ys h.1 k)
 all_option : {X : Type 0} (P : X → Type 0) (o : Option X) → IfSome o P → AllByRecursion P (option_to_list o)
 all_option P None h = tt
 all_option P (Some x) h = (h, tt)
-
-few_option : {X : Type 0} (o : Option X) → length (option_to_list o) ≤ 1
-few_option None = omega arith
-few_option (Some x) = omega arith
 
 -- the outcomes of cells are those of the first and of the others, at their turns
 rest_more : (f : File) (bytes : List ℕ) (page : ℕ) (payload : Bool) (cell : ℕ → Result CellView CellFault) (n i : ℕ)

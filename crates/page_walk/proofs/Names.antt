@@ -45,9 +45,10 @@ marked_step cell n i marks lt =
 pub marked_end : (cell : ℕ → Result CellView CellFault) (n i : ℕ) (marks : List Bool) → n ≤ i → marked_from cell (n - i) i marks ≡ []
 marked_end cell n i marks le = let e : n - i ≡ 0 = omega arith in rw e refl
 
-few_option : (o : Option ℕ) → length (option_to_list o) ≤ 1
+-- an option gives one at most
+pub few_option : {X : Type 0} (o : Option X) → length (option_to_list o) ≤ 1
 few_option None = omega arith
-few_option (Some p) = omega arith
+few_option (Some x) = omega arith
 
 pub naming_start : (page : List ℕ) (usable pages : ℕ) (shape : PageShape) (before : List ℕ) (marks : List Bool)
     → marks ≡ replicate usable false → Naming page usable pages shape before before 0 marks

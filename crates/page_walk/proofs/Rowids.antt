@@ -20,7 +20,7 @@ use Rattle.page_walk.specs.Laws.{RowidsAreByKind}
 use Rattle.page_walk.specs.Page.{shape_on, verdicts_in}
 
 -- an accepted cell is one that is read
-accepted_read : (r : Result CellView CellFault) (held : List CellView) (v : CellView) → verdict_on r held ≡ Accepts v → r ≡ Ok v
+pub accepted_read : (r : Result CellView CellFault) (held : List CellView) (v : CellView) → verdict_on r held ≡ Accepts v → r ≡ Ok v
 accepted_read (Err fault) held v e = absurd cc
 accepted_read (Ok w) held v e = by_test (list_all (are_apart w) held) e
   where

@@ -2,6 +2,7 @@
 use Rattle.std.proofs.Common.{◌≡◌, ◌≤◌, ◌⊎◌, inl, inr, ℕ, suc, ◌+◌, ◌-◌, ◌*◌, ◌%◌, ◌==◌, Bool, true, false, Option, Some, None, List, [], ◌∷◌, ◌++◌, length, take, drop, refl, sym, ◌∙◌, ap, subst, arith, length-take}
 use Rattle.std.specs.Prelude.{ℤ, nat_lt, sum_by, Result, Ok, Err}
 use Rattle.std.specs.List.{list_any}
+use Rattle.std.proofs.lemmas.Bool.{cases_Bool}
 use Rattle.std.proofs.lemmas.Bool.Decides.{nat_tests}
 use Rattle.std.proofs.lemmas.List.Sums.{sum_by-cons}
 use Rattle.page_lists.specs.Table.{Table}
@@ -13,24 +14,20 @@ use Rattle.overflow_chain.specs.Turn.{Takes}
 use Rattle.page_walk.specs.Bounds.{ArePages, IsSmall}
 use Rattle.page_walk.specs.Cells.{Outcome, read_as}
 
-either : (b : Bool) → (b ≡ true) ⊎ (b ≡ false)
-either true = inl refl
-either false = inr refl
-
 -- a value holds no more bytes than its body
 value_short : (t : ℕ) (body : List ℕ) → value_len (value_of t body) ≤ length body
 unfolding value_of
-value_short t body = elim (either (t == 0)) [
+value_short t body = elim (cases_Bool (t == 0)) [
   | inl a ↦ rw a (omega arith)
-  | inr a ↦ rw a (elim (either (nat_lt t 7)) [
+  | inr a ↦ rw a (elim (cases_Bool (nat_lt t 7)) [
     | inl b ↦ rw b (omega arith)
-    | inr b ↦ rw b (elim (either (t == 7)) [
+    | inr b ↦ rw b (elim (cases_Bool (t == 7)) [
       | inl d ↦ rw d (omega arith)
-      | inr d ↦ rw d (elim (either (t == 8)) [
+      | inr d ↦ rw d (elim (cases_Bool (t == 8)) [
         | inl e ↦ rw e (omega arith)
-        | inr e ↦ rw e (elim (either (t == 9)) [
+        | inr e ↦ rw e (elim (cases_Bool (t == 9)) [
           | inl f ↦ rw f (omega arith)
-          | inr f ↦ rw f (elim (either (t % 2 == 0)) [
+          | inr f ↦ rw f (elim (cases_Bool (t % 2 == 0)) [
             | inl g ↦ rw g (omega arith)
             | inr g ↦ rw g (omega arith)
           ])
@@ -64,11 +61,11 @@ record IsChecked (payload : List ℕ) (h : Header) : Type 0 where
 
 checked_is : (payload : List ℕ) (h k : Header) → checked payload h ≡ Ok k → (h ≡ k) × IsChecked payload h
 unfolding checked
-checked_is payload h k e = elim (either (nat_lt 1996 (length h.types))) [
+checked_is payload h k e = elim (cases_Bool (nat_lt 1996 (length h.types))) [
   | inl a ↦ let bad = rw a at e in cc
-  | inr a ↦ let e2 = rw a at e in elim (either (list_any is_reserved h.types)) [
+  | inr a ↦ let e2 = rw a at e in elim (cases_Bool (list_any is_reserved h.types)) [
     | inl b ↦ let bad = rw b at e2 in cc
-    | inr b ↦ let e3 = rw b at e2 in elim (either (nat_lt (length payload) (h.size + bodies_len h.types))) [
+    | inr b ↦ let e3 = rw b at e2 in elim (cases_Bool (nat_lt (length payload) (h.size + bodies_len h.types))) [
       | inl d ↦ let bad = rw d at e3 in cc
       | inr d ↦ let last = rw d at e3 in
           (cc, record { few = grind (arith, nat_tests); there = grind (arith, nat_tests) })

@@ -44,7 +44,7 @@ same_kind_tells (Some Table) (Some Index) h = absurd (false≢true h)
 same_kind_tells (Some Index) (Some Table) h = absurd (false≢true h)
 same_kind_tells (Some Index) (Some Index) h = refl
 
-same_kind_self : (kind : Kind) → same_kind (Some kind) (Some kind) ≡ true
+pub same_kind_self : (kind : Kind) → same_kind (Some kind) (Some kind) ≡ true
 same_kind_self Table = refl
 same_kind_self Index = refl
 

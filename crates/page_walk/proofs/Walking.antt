@@ -35,7 +35,7 @@ pub record Walking {S : Type 0} (told attached : S → Option (List ℕ)) (fault
   pub found_are : IfSome (told src0) (λ all. Found (file_of all geo) kind root (unused old) found at)
 
 -- moves make no page unused
-moves_fewer : (l : ℕ) (a b : Table) → 1 ≤ l → Moves l a b → length (unused b) ≤ length (unused a)
+pub moves_fewer : (l : ℕ) (a b : Table) → 1 ≤ l → Moves l a b → length (unused b) ≤ length (unused a)
 moves_fewer l a b least moves =
     omega (
       arith,

@@ -123,7 +123,7 @@ turn_cells usable pages page (Read row ∷ os) low high all = (
 )
 turn_cells usable pages page (Unread u ∷ os) low high all = turn_cells usable pages page os low high all.1
 
-few_rows : (os : List Outcome) → length (rows_of os) ≤ length os
+pub few_rows : (os : List Outcome) → length (rows_of os) ≤ length os
 few_rows [] = omega arith
 few_rows (Read row ∷ os) = omega (arith, few_rows os)
 few_rows (Unread u ∷ os) = omega (arith, few_rows os)
@@ -135,7 +135,7 @@ cells_small usable pages (t ∷ ts) all =
     all_append (IsSmallCell usable pages) (rows_of t.1) (cells_in ts)
     (turn_cells usable pages t.0 t.1 all.0.least all.0.most all.0.small) (cells_small usable pages ts all.1)
 
-cells_few : (usable pages : ℕ) (ts : List (ℕ × List Outcome)) → AllByRecursion (IsSmallTurn usable pages) ts
+pub cells_few : (usable pages : ℕ) (ts : List (ℕ × List Outcome)) → AllByRecursion (IsSmallTurn usable pages) ts
     → length (cells_in ts) ≤ length ts * (usable / 2)
 cells_few usable pages [] all = omega arith
 cells_few usable pages (t ∷ ts) all =

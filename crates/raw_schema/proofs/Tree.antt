@@ -11,17 +11,9 @@ use Rattle.page_lists.proofs.Uses.{list_at-all_moved, list_at-all_moved-other, u
 use Rattle.overflow_chain.specs.declared.TheConstants.{OVERFLOW_LIST}
 use Rattle.page_walk.specs.Turns.{ReadsEach, chains_on}
 use Rattle.page_walk.proofs.Going.{always_told, both_told, one_told}
+use Rattle.page_walk.proofs.Walking.{moves_fewer}
 use Rattle.raw_schema.specs.Schema.{ReadsChains, ReadsTwice, SchemaFront, after_tree, schema_chains, schema_pages}
 use Rattle.raw_schema.specs.declared.TheConstants.{SCHEMA_LIST}
-
--- no more pages are unused after moves
-fewer_unused : (l : ℕ) (a b : Table) → 1 ≤ l → Moves l a b → length (unused b) ≤ length (unused a)
-fewer_unused l a b over moves =
-    omega (
-      arith,
-      ap length (ap unused moves.all ∙ unused-all_moved moves.taken l a over),
-      length-minus (unused a) moves.taken moves.were_unused,
-    )
 
 -- what an error of the walk leaves
 pub reads_at_err : {T E : Type 0} (r : Result T E) (told : Option (List ℕ)) (geo : Geometry) (old new : Table) (before now : ℕ) → IsErr r
@@ -31,7 +23,7 @@ reads_at_err (Ok x) told geo old new before now is moves read = absurd (cc)
 reads_at_err (Err e) told geo old new before now is moves read =
     one_told (λ all. IsWhole all geo → now + length (unused new) ≤ before + length (unused old) + 1)
     (λ all. IsWhole all geo → now + 2 * length (unused new) ≤ before + 2 * length (unused old) + 1) told
-    (λ all h whole. omega (arith, h whole, fewer_unused SCHEMA_LIST old new (omega arith) moves)) read
+    (λ all h whole. omega (arith, h whole, moves_fewer SCHEMA_LIST old new (omega arith) moves)) read
 
 -- the reads of the walk, and then those of the pages that it gave
 pub reads_in_all : (told told' : Option (List ℕ)) (geo : Geometry) (pages : List ℕ) (old mid new : Table) (before at now more : ℕ)
@@ -50,7 +42,7 @@ reads_in_all told told' geo pages old mid new before at now more same part moved
       k whole,
       length-minus (unused old) pages part,
       ap length (ap unused moved ∙ unused-all_moved pages SCHEMA_LIST old (omega arith)),
-      fewer_unused OVERFLOW_LIST mid new (omega arith) moves,
+      moves_fewer OVERFLOW_LIST mid new (omega arith) moves,
     ))
     first later
 

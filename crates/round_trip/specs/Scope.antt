@@ -1,6 +1,7 @@
 -- Well-formed files that come back whole (docs/FORMAT.md, "A well-formed file").
-use Rattle.std.specs.Prelude.{◌≡◌, ◌≤◌, ◌^◌, ℕ, List, length}
+use Rattle.std.specs.Prelude.{◌≡◌, ◌≤◌, ℕ, List, length}
 use Rattle.std.specs.List.{AllByRecursion}
+use Rattle.page_access.specs.Files.{max_input}
 use Rattle.create_reader.specs.declared.faults.CreateFault.{CreateFault}
 use Rattle.create_reader.specs.declared.faults.CreateFault.TheVariants.{Memory}
 use Rattle.create_reader.specs.Outcome.{HasFault}
@@ -12,5 +13,5 @@ IsFaultless text = (fault : CreateFault) → HasFault text fault → fault ≡ M
 
 -- the file has at most 2^28 bytes, and no text of a table that is not virtual has a fault
 pub record IsInScope (bytes : List ℕ) (db : Database) : Type 0 where
-  pub few : length bytes ≤ 2 ^ 28
+  pub few : length bytes ≤ max_input
   pub texts : AllByRecursion (λ (t : TableRows). IsFaultless t.text) db.tables

@@ -1,6 +1,7 @@
 -- What a status says of the told bytes.
-use Rattle.std.proofs.Common.{◌≡◌, ◌∙◌, ◌⊎◌, ◌<◌, ◌^◌, ℕ, Bool, true, false, List, length, Option, Some, None, Result, Ok, Err, ap, subst, inl, inr, refl, sym, arith, if◌then◌else◌}
+use Rattle.std.proofs.Common.{◌≡◌, ◌∙◌, ◌⊎◌, ◌<◌, ℕ, Bool, true, false, List, length, Option, Some, None, Result, Ok, Err, ap, subst, inl, inr, refl, sym, arith, if◌then◌else◌}
 use Rattle.std.specs.Prelude.{IfSome, IsErrOf, IsOk}
+use Rattle.page_access.specs.Files.{max_input}
 use Rattle.command_line.specs.Parts.{Asked, FileAsked, Lists, RecoveryAsked, Recovers, Tries}
 use Rattle.command_line.specs.declared.request.Listing.{Listing}
 use Rattle.page_size.specs.Rule.{Finding}
@@ -70,9 +71,9 @@ large_pages listing all (Err found) len e =
     ap (λ (f : InputFaults). Err f) (large_input found len same)
 
 -- an input that is too large has over 2^28 bytes
-over : (listing : Listing) (file : FileAsked) (all : List ℕ) (len : ℕ) → listing_answer listing file all ≡ Err (TooLarge len) → 2 ^ 28 < length all
+over : (listing : Listing) (file : FileAsked) (all : List ℕ) (len : ℕ) → listing_answer listing file all ≡ Err (TooLarge len) → max_input < length all
 over listing file all len e =
-    over_limit (2 ^ 28) file.page_size file.reserved all len (large_pages listing all (pages_of (2 ^ 28) file.page_size file.reserved all) len e)
+    over_limit max_input file.page_size file.reserved all len (large_pages listing all (pages_of max_input file.page_size file.reserved all) len e)
 
 five_is : {A : Type 0} (answer : Result A Fault) → status_of answer ≡ 5 → (len : ℕ) × (answer ≡ Err (TooLarge len))
 five_is (Ok done) e = absurd (omega arith)
@@ -99,10 +100,10 @@ large_of {A = A} (Err fault) old new answer h e =
 
 -- a recovery that is refused with status 5 is of an input that is too large
 over_end : (r : RecoveryAsked) (all : List ℕ) (to : Outputs) (end : Result Summary CoreFault) → Ends (options_of r) (Some all) to end
-    → status_of (answer_of end) ≡ 5 → 2 ^ 28 < length all
+    → status_of (answer_of end) ≡ 5 → max_input < length all
 over_end r all to (Ok s) h e = absurd (omega arith)
 over_end r all to (Err core.InputFault) h e = absurd (omega arith)
-over_end r all to (Err (core.TooLarge len)) h e = over_limit (2 ^ 28) r.input.page_size r.input.reserved all len h
+over_end r all to (Err (core.TooLarge len)) h e = over_limit max_input r.input.page_size r.input.reserved all len h
 over_end r all to (Err core.NoPageSize) h e = absurd (omega arith)
 over_end r all to (Err (core.NoWholePage len size)) h e = absurd (omega arith)
 over_end r all to (Err (core.Utf16 encoding)) h e = absurd (omega arith)
@@ -114,7 +115,7 @@ over_end r all to (Err core.Memory) h e = absurd (omega arith)
 
 pub over_told : (command : Option Asked) (told : Option (List ℕ)) (turns : Turns) (old new : Option (List ℕ)) (answer : Result (Unit {0}) Fault)
     → IfSome told (λ all. GivesCommand command all old new answer) → HasEnd command told turns answer
-    → IfSome told (λ all. status_of answer ≡ 5 → 2 ^ 28 < length all)
+    → IfSome told (λ all. status_of answer ≡ 5 → max_input < length all)
 over_told command None turns old new answer h ended = tt
 over_told None (Some all) turns old new answer h ended = λ e. elim (refused answer h) [ inl two ↦ absurd (omega arith) | inr eleven ↦ absurd (omega arith) ]
 over_told (Some (Tries n)) (Some all) turns old new answer h ended = λ e. absurd (never_large n turns.report answer ended e)

@@ -1,7 +1,8 @@
 -- What a command leaves in the report, exit by exit.
-use Rattle.std.proofs.Common.{◌≡◌, ◌∙◌, ◌^◌, ℕ, List, length, Option, Some, None, Result, Ok, Err, ap, sym, subst}
+use Rattle.std.proofs.Common.{◌≡◌, ◌∙◌, ℕ, List, length, Option, Some, None, Result, Ok, Err, ap, sym, subst}
 use Rattle.std.specs.Prelude.{IfErr, IfSome, option_map}
 use Rattle.std.proofs.Math.Seq.{take-length}
+use Rattle.page_access.specs.Files.{max_input}
 use Rattle.page_access.specs.Outside.{Gains, WritesOf}
 use Rattle.command_line.specs.Parts.{FileAsked}
 use Rattle.command_line.specs.declared.request.Listing.{Listing}
@@ -34,7 +35,7 @@ finished (Some all) told' old mid new f g text x r same w e is =
 -- the pages of an input were found, and are listed
 pub found_listed : {A : Type 0} (told told' old new : Option (List ℕ)) (listing : Listing) (file : FileAsked) (pages : Option Input) (input : Input)
     (r : Result A Fault) → told' ≡ told → pages ≡ Some input
-    → IfSome told (λ all. FindsPages (Ok pages) (pages_of (2 ^ 28) file.page_size file.reserved all))
+    → IfSome told (λ all. FindsPages (Ok pages) (pages_of max_input file.page_size file.reserved all))
     → IfSome told' (λ all. GivesWanted (text_or_refusal listing all (finding input.found)) old new r)
     → IfSome told (λ all. GivesWanted (listing_answer listing file all) old new r)
 found_listed None told' old new listing file pages input r same is pages_are listed = tt

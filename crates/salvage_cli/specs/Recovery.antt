@@ -1,5 +1,6 @@
 -- What a recovery leaves (docs/TEXTS.md, "Statuses").
 use Rattle.std.specs.Prelude.{◌≡◌, ◌^◌, ◌+◌, ◌≤◌, ℕ, List, codes, Option, Some, unwrap_or, Result, Ok, Err, IfSome, ⊤}
+use Rattle.page_access.specs.Files.{max_input}
 use Rattle.command_line.specs.Parts.{Asked, RecoveryAsked, Recovers}
 use Rattle.salvage_core.specs.declared.faults.Fault.{Fault as CoreFault}
 use Rattle.salvage_core.specs.declared.options.Options.{Options}
@@ -24,7 +25,7 @@ options_of r = record {
   reserved = r.input.reserved;
   freelist_corrupt = r.freelist_corrupt;
   lost = unwrap_or r.lost lost_and_found;
-  input_limit = 2 ^ 28;
+  input_limit = max_input;
   load_limit = 2 ^ 32;
 }
 

@@ -1,5 +1,6 @@
 -- What the program does with its five objects (docs/TEXTS.md, "Statuses").
 use Rattle.std.specs.Prelude.{◌≡◌, ◌<◌, ◌^◌, ℕ, List, [], Option, Result, Ok, Err, ⊤}
+use Rattle.page_access.specs.Files.{max_input}
 use Rattle.page_access.specs.Outside.{Gains, GainsPrefix}
 use Rattle.salvage_cli.specs.declared.faults.Fault.{Fault}
 use Rattle.salvage_cli.specs.declared.faults.Fault.TheVariants.{Usage, InputFault, TooLarge, NoPageSize, NoWholePage, Utf16, OutputTooLarge, OutputFault, ScriptFault, ReportFault, Memory}
@@ -59,7 +60,7 @@ IsLate (Err fault) = ⊥
 
 -- the numbers of a refusal are of its cause
 abbrev pub HasNumbers : {A : Type 0} → Result A Fault → Type 0
-HasNumbers (Err (TooLarge len)) = 2 ^ 28 < len
+HasNumbers (Err (TooLarge len)) = max_input < len
 HasNumbers (Err (NoWholePage len size)) = (0 < len) × (len < size)
 HasNumbers (Err (OutputTooLarge load)) = 2 ^ 32 < load
 HasNumbers answer = ⊤

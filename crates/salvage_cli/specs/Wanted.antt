@@ -1,8 +1,9 @@
 -- What a command gives, as a function of the bytes of its input (docs/TEXTS.md, "Listings" and "Statuses").
-use Rattle.std.specs.Prelude.{ℕ, ◌^◌, Bool, false, if◌then◌else◌, List, [], Option, Some, None, Result, Ok, Err}
+use Rattle.std.specs.Prelude.{ℕ, Bool, false, if◌then◌else◌, List, [], Option, Some, None, Result, Ok, Err}
 use Rattle.command_line.specs.Parts.{FileAsked}
 use Rattle.command_line.specs.declared.request.Listing.{Listing}
 use Rattle.command_line.specs.declared.request.Listing.TheVariants.{Dbdata, Dbptr, Schema}
+use Rattle.page_access.specs.Files.{max_input}
 use Rattle.page_access.specs.Pages.{File}
 use Rattle.page_size.specs.Rule.{Finding}
 use Rattle.input_pages.specs.Input.{is_utf16, pages_of}
@@ -41,4 +42,4 @@ answer_on_pages listing bytes (Ok (Some f)) = text_or_refusal listing bytes f
 
 -- what a listing of these bytes answers: its text, or a refusal
 abbrev pub listing_answer : Listing → FileAsked → List ℕ → Result (List ℕ) Fault
-listing_answer listing file bytes = answer_on_pages listing bytes (pages_of (2 ^ 28) file.page_size file.reserved bytes)
+listing_answer listing file bytes = answer_on_pages listing bytes (pages_of max_input file.page_size file.reserved bytes)

@@ -12,8 +12,8 @@ use crate::faults::Fault;
 use crate::schemas::list_schema;
 use command_line::{InputFile, Listing};
 use dbdata_list::{list_data, list_pointers};
-use input_pages::{MAX_INPUT, is_utf16, open_input};
-use page_access::{Geometry, Sink, Source};
+use input_pages::{is_utf16, open_input};
+use page_access::{Geometry, MAX_INPUT, Sink, Source};
 use page_size::Found;
 use std::alloc::Global;
 

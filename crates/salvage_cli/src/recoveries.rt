@@ -10,8 +10,7 @@ ghost use Rattle.salvage_cli.specs.Run.{HasNumbers};
 
 use crate::faults::Fault;
 use command_line::Recovery;
-use input_pages::MAX_INPUT;
-use page_access::{Sink, Source};
+use page_access::{MAX_INPUT, Sink, Source};
 use record_core::Bytes;
 use salvage_core::Options;
 use std::alloc::Global;

@@ -1,5 +1,6 @@
 //! The top call.
-ghost use Rattle.std.specs.Prelude.{◌≡◌, ◌⊎◌, ◌<◌, ◌^◌, length, None, true, map, string_bytes, IfSome, OnErr, OnOk, IsErrOf, IsOk};
+ghost use Rattle.std.specs.Prelude.{◌≡◌, ◌⊎◌, ◌<◌, length, None, true, map, string_bytes, IfSome, OnErr, OnOk, IsErrOf, IsOk};
+ghost use Rattle.page_access.specs.Files.{max_input};
 ghost use Rattle.page_access.specs.Outside.{GainsPrefix, HasCauseOf, KeepsSink, Rose};
 ghost use Rattle.command_line.specs.Command.{command_of};
 ghost use Rattle.salvage_core.specs.Outcome.{turn_of};
@@ -110,7 +111,7 @@ pub fn run<S: Source, O: Sink, T: Sink, R: Sink, E: Sink>(
         → src.new ≡ src.old }
 
     // faults of the outside, and what is said
-    ensures too_large { IfSome (S.bytes src.old) (λ all. result ≡ 5 → 2 ^ 28 < length all) }
+    ensures too_large { IfSome (S.bytes src.old) (λ all. result ≡ 5 → max_input < length all) }
     ensures input_fault { result ≡ 3 → Rose (S.faults src.old) (S.faults src.new) }
     ensures output_fault { result ≡ 7 → Rose (O.faults out.old) (O.faults out.new) }
     ensures script_fault { result ≡ 8 → Rose (T.faults script.old) (T.faults script.new) }

@@ -4,6 +4,7 @@ use Rattle.std.specs.List.{AllByRecursion, flat_map}
 use Rattle.std.proofs.Math.Nat.{add-mul, div-le_self, mul-le-mul_left, mul-le-mul_right}
 use Rattle.std.proofs.lemmas.List.{length-map}
 use Rattle.std.proofs.lemmas.List.Sorted.{length_permutation}
+use Rattle.page_access.specs.Files.{max_input}
 use Rattle.page_walk.specs.Cells.{Outcome, Read, Row, Unread, row_of}
 use Rattle.page_walk.specs.InTurn.{IsSmallTurn}
 use Rattle.page_walk.specs.declared.outcomes.TakenCell.{TakenCell}
@@ -11,6 +12,7 @@ use Rattle.page_walk.specs.Rows.{rows_of}
 use Rattle.page_walk.proofs.Going.{all_append}
 use Rattle.raw_schema.specs.Schema.{cells_in}
 use Rattle.raw_schema.specs.declared.rows.SchemaRow.{SchemaRow}
+use Rattle.raw_schema.proofs.Small.{cells_few}
 use Rattle.tree_uses.specs.Trees.{Tree}
 use Rattle.orphan_trees.specs.Orphans.{Orphan}
 use Rattle.schema_texts.specs.declared.readings.TableReading.{TableReading}
@@ -32,19 +34,6 @@ use Rattle.salvage_core.specs.Lost.{lost_tables}
 use Rattle.salvage_core.proofs.Losing.{rows_counted}
 
 -- ---- the cells of trees
-
-rows_few : (os : List Outcome) → length (rows_of os) ≤ length os
-rows_few [] = omega arith
-rows_few (Read row ∷ os) = omega (arith, rows_few os)
-rows_few (Unread u ∷ os) = omega (arith, rows_few os)
-
--- as many on each page as it has room for
-cells_few : (usable pages : ℕ) (ts : List (ℕ × List Outcome)) → AllByRecursion (IsSmallTurn usable pages) ts → length (cells_in ts) ≤ length ts * (usable / 2)
-cells_few usable pages [] small = omega arith
-cells_few usable pages (t ∷ ts) small =
-    let more : length (t ∷ ts) * (usable / 2) ≡ 1 * (usable / 2) + length ts * (usable / 2) =
-    ap (λ (n : ℕ). n * (usable / 2)) (omega arith) ∙ add-mul 1 (length ts) (usable / 2) in
-    omega (arith, length-append (rows_of t.1) (cells_in ts), rows_few t.1, small.0.few, cells_few usable pages ts small.1, more)
 
 -- a tree has no more turns than pages
 pub trees_few : {T : Type 0} (usable pages : ℕ) (pages_at : T → List ℕ) (trees : List T) (turns : List (List (ℕ × List Outcome)))
@@ -194,7 +183,7 @@ pub cells_within : (usable pages cells some : ℕ) → cells ≤ some * (usable 
 cells_within usable pages cells some few le = omega (arith, few, mul-le-mul_right (usable / 2) le)
 
 -- three times as many are still fewer than 2^32
-pub cells_limit : (usable pages size left : ℕ) → usable ≤ size → pages * size + left ≤ 2 ^ 28 → 3 * (pages * (usable / 2)) < 2 ^ 32
+pub cells_limit : (usable pages size left : ℕ) → usable ≤ size → pages * size + left ≤ max_input → 3 * (pages * (usable / 2)) < 2 ^ 32
 cells_limit usable pages size left most limit =
     let half : usable / 2 ≤ size = omega (arith, div-le_self usable 2, most) in
     omega (arith, limit, mul-le-mul_left pages half)

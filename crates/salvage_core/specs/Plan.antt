@@ -2,6 +2,7 @@
 -- docs/TEXTS.md, "The report").
 use Rattle.std.specs.Prelude.{◌≡◌, ◌≤◌, ◌^◌, ◌+◌, ℕ, ◌-◌, nat_lt, ◌&&◌, not, if◌then◌else◌, IsTrue, IfSome, IsSomeAnd, Option, Some, None, unwrap_or, Result, Ok, Err, false, true, List, [], ◌∷◌, ◌++◌, length, map, ⊤}
 use Rattle.std.specs.List.{flat_map, range_with_len}
+use Rattle.page_access.specs.Files.{max_input}
 use Rattle.page_access.specs.Pages.{File, is_page_size}
 use Rattle.page_access.specs.declared.geometry.Geometry.{Geometry}
 use Rattle.page_lists.specs.Table.{Table, fresh}
@@ -37,7 +38,7 @@ pub record AreOptions (o : Options) : Type 0 where
   pub lost : CanBeBase o.lost
   pub size : IfSome o.page_size (λ s. IsTrue (is_page_size s))
   pub enough : IfSome o.page_size (λ s. IfSome o.reserved (λ r. r + 480 ≤ s))
-  pub input_limit : o.input_limit ≤ 2 ^ 28
+  pub input_limit : o.input_limit ≤ max_input
   pub load_limit : o.load_limit ≤ 2 ^ 35
 
 -- ---- the lines in front of those of the tables

@@ -1,6 +1,7 @@
 -- What stands in the way of a recovery, and where nothing does (docs/TEXTS.md, "Statuses"; docs/FORMAT.md, "A well-formed
 -- file").
 use Rattle.std.specs.Prelude.{◌≡◌, ◌≤◌, ◌⊎◌, ◌^◌, ℕ, Some, List}
+use Rattle.page_access.specs.Files.{max_input}
 use Rattle.well_formed.specs.Database.{Database}
 use Rattle.well_formed.specs.Spells.{Spells}
 use Rattle.round_trip.specs.Scope.{IsInScope}
@@ -18,7 +19,7 @@ pub record IsRecoverable (o : Options) (all : List ℕ) : Type 0 where
 
 -- the limits let through inputs of 2^28 bytes, and databases with a load of 2^31
 pub record AreWide (o : Options) : Type 0 where
-  pub input : 2 ^ 28 ≤ o.input_limit
+  pub input : max_input ≤ o.input_limit
   pub load : 2 ^ 31 ≤ o.load_limit
 
 -- the bytes spell a database, and are in scope

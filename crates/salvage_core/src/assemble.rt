@@ -1,5 +1,6 @@
 //! The parts of a file, put together.
-ghost use Rattle.std.specs.Prelude.{◌≡◌, ◌^◌, length, IfOk};
+ghost use Rattle.std.specs.Prelude.{◌≡◌, length, IfOk};
+ghost use Rattle.page_access.specs.Files.{max_input};
 ghost use Rattle.page_access.specs.Pages.{File};
 ghost use Rattle.page_size.specs.Rule.{finding};
 ghost use Rattle.input_pages.specs.Input.{IsWithin};
@@ -29,7 +30,7 @@ pub(crate) fn assemble(
     found_uses: FoundUses,
 ) -> Result<Gathered, AllocError>
     requires options { AreOptions opts.now }
-    requires within { IsWithin (2 ^ 28) input.now }
+    requires within { IsWithin max_input input.now }
     requires readings { HaveReadings input.now.found.geometry.usable
         input.now.found.geometry.pages found_uses.uses }
     requires orphans { HaveOrphans input.now.found.geometry.usable

@@ -1,7 +1,7 @@
 //! What the bytes of an input give.
-ghost use Rattle.std.specs.Prelude.{◌≡◌, ◌≤◌, ◌+◌, ◌^◌, unwrap_or, IsTrue, Some, IfOk, IfSome, OnOk};
+ghost use Rattle.std.specs.Prelude.{◌≡◌, ◌≤◌, ◌+◌, unwrap_or, IsTrue, Some, IfOk, IfSome, OnOk};
 ghost use Rattle.page_access.specs.Outside.{HasCauseOf, KeepsSource};
-ghost use Rattle.page_access.specs.Files.{FewReads};
+ghost use Rattle.page_access.specs.Files.{FewReads, max_input};
 ghost use Rattle.page_access.specs.Pages.{is_page_size};
 ghost use Rattle.page_size.specs.Rule.{finding};
 ghost use Rattle.input_pages.specs.Input.{IsWithin, left_of};
@@ -115,7 +115,7 @@ fn gather_pages<S: Source>(
     src: &mut S,
 ) -> Result<Gathered, Fault>
     requires options { AreOptions opts.now }
-    requires within { IsWithin (2 ^ 28) input.now }
+    requires within { IsWithin max_input input.now }
     ensures plan { IfSome (S.bytes src.old) (λ all. input.now.left ≡ left_of all (finding input.now.found)
         → IsPagesAnswer opts.now all (finding input.now.found) result) }
     ensures sound { IfOk result IsSound }

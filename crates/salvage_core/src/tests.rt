@@ -3,7 +3,7 @@ ghost use Rattle.std.specs.Prelude.{◌≤◌, ◌^◌, IfOk};
 ghost use Rattle.salvage_core.specs.Plan.{AreOptions};
 
 use crate::{Fault, Options, Summary, recover};
-use page_access::{MemSink, MemSource};
+use page_access::{MAX_INPUT, MemSink, MemSource};
 use record_core::Bytes;
 use std::alloc::{AllocError, Global};
 use std::test::Fail;
@@ -18,7 +18,7 @@ fn options(alloc: Global, load_limit: u64) -> Result<Options, AllocError>
         reserved: None,
         freelist_corrupt: false,
         lost: Bytes::copy_of(alloc, b"lost_and_found")?,
-        input_limit: 1 << 28,
+        input_limit: MAX_INPUT,
         load_limit,
     })
 }

@@ -1,6 +1,6 @@
 //! The use of each page of a file.
-ghost use Rattle.std.specs.Prelude.{◌≡◌, ◌≤◌, ◌+◌, ◌*◌, ◌^◌, length, IfOk, IfSome};
-ghost use Rattle.page_access.specs.Files.{FewReads, file_of};
+ghost use Rattle.std.specs.Prelude.{◌≡◌, ◌≤◌, ◌+◌, ◌*◌, length, IfOk, IfSome};
+ghost use Rattle.page_access.specs.Files.{FewReads, file_of, max_input};
 ghost use Rattle.page_access.specs.Outside.{HasCauseOf, KeepsSource};
 ghost use Rattle.salvage_core.specs.Reads.{page_reads};
 ghost use Rattle.salvage_core.specs.Uses.{AreUses, HaveOrphans, HaveReadings};
@@ -32,7 +32,7 @@ pub(crate) fn uses_of<S: Source>(
     first_trunk: Option<u32>,
     src: &mut S,
 ) -> Result<FoundUses, ReadFault>
-    requires few { geo.now.pages * geo.now.page_size ≤ 2 ^ 28 }
+    requires few { geo.now.pages * geo.now.page_size ≤ max_input }
     ensures uses { IfOk result (λ u. IfSome (S.bytes src.old)
         (λ all. AreUses (file_of all geo.now) first_trunk u)) }
     ensures readings { IfOk result (λ u. HaveReadings geo.now.usable geo.now.pages u.uses) }

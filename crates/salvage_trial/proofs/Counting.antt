@@ -4,6 +4,7 @@ use Rattle.std.specs.List.{AllByRecursion}
 use Rattle.std.proofs.lemmas.List.{length-map}
 use Rattle.std.proofs.lemmas.List.FromFn.{length-map-range_with_len}
 use Rattle.std.proofs.lemmas.List.Sums.{sum_by-cons}
+use Rattle.page_access.specs.Files.{max_input}
 use Rattle.create_reader.specs.Outcome.{HasFault}
 use Rattle.table_shape.specs.declared.rows.OutTable.{OutTable}
 use Rattle.table_shape.specs.Seen.{row_seen}
@@ -24,7 +25,7 @@ faultless : (n : ℕ) (db : OutDb) (made : IsTrial n db) → TextHasNoFault → 
 faultless n db made none fault has =
     none made.table.shape fault made.table_is.shape (subst (λ (text : List ℕ). HasFault text fault) made.table_is.text has)
 
-pub in_scope : (n : ℕ) (db : OutDb) (bytes : List ℕ) → IsTrial n db → TextHasNoFault → length bytes ≤ 2 ^ 28 → IsInScope bytes (database_of db)
+pub in_scope : (n : ℕ) (db : OutDb) (bytes : List ℕ) → IsTrial n db → TextHasNoFault → length bytes ≤ max_input → IsInScope bytes (database_of db)
 in_scope n db bytes made none few = record {
   few = few;
   texts = subst (λ (ts : List OutTable). AllByRecursion (λ (t : TableRows). IsFaultless t.text) (map table_of ts)) (sym made.tables) (faultless n db made none, tt);

@@ -1,6 +1,7 @@
 -- The file of a trial is read, whole and with a page of zeros.
-use Rattle.std.proofs.Common.{◌≡◌, refl, ap, arith, inl, inr, ℕ, ◌-◌, ◌*◌, ◌%◌, ◌^◌, ◌<◌, ◌≤◌, List, length}
+use Rattle.std.proofs.Common.{◌≡◌, refl, ap, arith, inl, inr, ℕ, ◌-◌, ◌*◌, ◌%◌, ◌<◌, ◌≤◌, List, length}
 use Rattle.std.proofs.Math.Nat.{mod-lt}
+use Rattle.page_access.specs.Files.{max_input}
 use Rattle.db_builder.specs.declared.databases.OutDb.{OutDb}
 use Rattle.layout_laws.specs.Laws.{LayoutIsWhole}
 use Rattle.layout_laws.specs.Written.{database_of}
@@ -18,14 +19,14 @@ spelled_header : (bytes : List ℕ) (d : Database) → 1 ≤ length bytes → Sp
 spelled_header bytes d some (inl none) = absurd (omega (arith, some, ap length none.0))
 spelled_header bytes d some (inr well) = well.header
 
-readable : (bytes : List ℕ) (d : Database) → IsHeader bytes d → length bytes ≤ 2 ^ 28 → IsReadable bytes
-readable bytes d h few = (d, headers_are_found (2 ^ 28) bytes d h few)
+readable : (bytes : List ℕ) (d : Database) → IsHeader bytes d → length bytes ≤ max_input → IsReadable bytes
+readable bytes d h few = (d, headers_are_found max_input bytes d h few)
 
 -- the number of its bytes
 pub file_len : (db : OutDb) → LayoutIsWhole → length (file_of db) ≡ pages_of db * page_size
 file_len db whole = whole page_size db refl
 
-pub file_short : (n : ℕ) (db : OutDb) → n ≤ most_rows → IsSmall n db → LayoutIsWhole → length (file_of db) ≤ 2 ^ 28
+pub file_short : (n : ℕ) (db : OutDb) → n ≤ most_rows → IsSmall n db → LayoutIsWhole → length (file_of db) ≤ max_input
 file_short n db few small whole = omega (arith, file_len db whole, few, small.pages)
 
 file_header : (n : ℕ) (db : OutDb) → IsSmall n db → LayoutIsWhole → Spells (file_of db) (database_of db) → IsHeader (file_of db) (database_of db)

@@ -1,6 +1,7 @@
 -- The lines of a trial are put.
-use Rattle.std.proofs.Common.{◌≡◌, inl, refl, sym, subst, ◌∙◌, arith, ℕ, ◌^◌, ◌≤◌, Option, Bool, true, false, List, ◌++◌, length, Ok, Err, Some}
+use Rattle.std.proofs.Common.{◌≡◌, inl, refl, sym, subst, ◌∙◌, arith, ℕ, ◌≤◌, Option, Bool, true, false, List, ◌++◌, length, Ok, Err, Some}
 use Rattle.std.proofs.Math.Seq.{take-length}
+use Rattle.page_access.specs.Files.{max_input}
 use Rattle.page_access.specs.Outside.{Gains, HasCause, KeepsSink, Writes}
 use Rattle.page_access.proofs.Keeps.{Rose-longer}
 use Rattle.db_builder.specs.declared.databases.OutDb.{OutDb}
@@ -25,13 +26,13 @@ plain : ArePlain plain_options
 plain = record { page_size = refl; reserved = refl; freelist = refl }
 
 -- the whole file comes back
-back_of : (n : ℕ) (db : OutDb) (g : Gathered) → IsTrial n db → TextHasNoFault → length (file_of db) ≤ 2 ^ 28 → Spells (file_of db) (database_of db)
+back_of : (n : ℕ) (db : OutDb) (g : Gathered) → IsTrial n db → TextHasNoFault → length (file_of db) ≤ max_input → Spells (file_of db) (database_of db)
     → HavePlaces g.db.tables.items g.places.items → IsPlan plain_options (file_of db) g → IsBack (database_of db) g
 back_of n db g made none few spells placed plan =
     told_back plain_options (Some (file_of db)) g placed plan (database_of db) plain spells (in_scope n db (file_of db) made none few)
 
 -- the numbers of a trial are those of its text
-pub text_of : (n : ℕ) (db : OutDb) (whole holed : Gathered) (x : Numbers) → n ≤ 100000 → IsTrial n db → TextHasNoFault → length (file_of db) ≤ 2 ^ 28
+pub text_of : (n : ℕ) (db : OutDb) (whole holed : Gathered) (x : Numbers) → n ≤ 100000 → IsTrial n db → TextHasNoFault → length (file_of db) ≤ max_input
     → Spells (file_of db) (database_of db) → HavePlaces whole.db.tables.items whole.places.items → IsPlan plain_options (file_of db) whole
     → IsPlan plain_options (holed_file n db) holed → x.rows ≡ n → x.pages ≡ pages_of db → x.whole.rows ≡ rows_out whole → x.whole.lost ≡ whole.lost
     → x.hole ≡ hole_of n (pages_of db) → x.holed.rows ≡ rows_out holed → x.holed.lost ≡ holed.lost → IsTrialText n (lines_of x)

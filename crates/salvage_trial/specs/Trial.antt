@@ -1,6 +1,7 @@
 -- A trial: a database is made, its file is salvaged whole and with a page of zeros, and two lines tell what came back
 -- (docs/FORMAT.md, "The database of a trial"; docs/TEXTS.md, "The lines of a trial").
 use Rattle.std.specs.Prelude.{◌≡◌, ℕ, ◌^◌, None, false, Result, Ok, Err, List, ◌++◌, codes, ⊤}
+use Rattle.page_access.specs.Files.{max_input}
 use Rattle.db_builder.specs.declared.faults.BuildFault.{BuildFault}
 use Rattle.db_builder.specs.declared.faults.BuildFault.TheVariants as built
 use Rattle.db_builder.specs.declared.databases.OutDb.{OutDb}
@@ -29,7 +30,7 @@ plain_options = record {
   reserved = None;
   freelist_corrupt = false;
   lost = codes "lost_and_found";
-  input_limit = 2 ^ 28;
+  input_limit = max_input;
   load_limit = 2 ^ 32;
 }
 
@@ -67,7 +68,7 @@ Ends n t (Err Memory) = ⊤
 
 -- bytes that are an input of pages, whose texts are not in UTF-16
 abbrev pub IsReadable : List ℕ → Type 0
-IsReadable bytes = (d : Database) × IsFound (2 ^ 28) bytes d
+IsReadable bytes = (d : Database) × IsFound max_input bytes d
 
 -- a build of a database that is not too large fails for want of memory alone, where its sink does
 abbrev pub IsShort : BuildFault → Type 0

@@ -4,7 +4,7 @@ ghost use Rattle.salvage_core.specs.Plan.{AreOptions, IsPlan};
 ghost use Rattle.salvage_core.specs.Sound.{IsSound};
 ghost use Rattle.salvage_trial.specs.Trial.{IsReadable, IsWanting, plain_options};
 
-use page_access::SureSource;
+use page_access::{MAX_INPUT, SureSource};
 use record_core::Bytes;
 use salvage_core::{Fault, Gathered, Options, gather};
 use std::alloc::{AllocError, Global};
@@ -43,7 +43,7 @@ fn plain_options(alloc: Global) -> Result<Options, AllocError>
         reserved: None,
         freelist_corrupt: false,
         lost: Bytes::copy_of(alloc, b"lost_and_found")?,
-        input_limit: 1 << 28,
+        input_limit: MAX_INPUT,
         load_limit: 1 << 32,
     })
 }

@@ -17,6 +17,7 @@ use Rattle.cell_reader.specs.Inside.{has_payload}
 use Rattle.cell_reader.specs.Screen.{Accepts, Overlaps, are_apart, held_with, screened_from, verdict_on, verdicts}
 use Rattle.cell_reader.specs.Spelling.{IsCell, IsOverflow, IsRightLong}
 use Rattle.cell_reader.proofs.Read.{read_spelled}
+use Rattle.page_walk.proofs.Rowids.{accepted_read}
 
 -- a cell of a page whose cells have a payload or have none
 pub record Sits (payload : Bool) (page : List ℕ) (v : CellView) : Type 0 where
@@ -101,18 +102,6 @@ cell_sits page usable pages shape i v is =
     outside : {fault : CellFault} → Err fault ≡ Ok v → ⊥
     outside e = cc
 
--- a verdict is on a cell
-on_cell : (r : Result CellView CellFault) (held : List CellView) (v : CellView) → verdict_on r held ≡ Accepts v → r ≡ Ok v
-on_cell (Err fault) held v is = absurd (cc)
-on_cell (Ok w) held v is =
-    elim (cases_Bool (list_all (are_apart w) held)) [
-      | inl apart ↦ let same : Accepts w ≡ Accepts v = rw apart at is in cc
-      | inr over ↦ absurd (not_both (rw over at is))
-    ]
-  where
-    not_both : Overlaps ≡ Accepts v → ⊥
-    not_both e = cc
-
 -- cells that are all accepted have no fault
 pub all_screened : (P : CellView → Type 0) (cell : ℕ → Result CellView CellFault) → ((i : ℕ) (v : CellView) → cell i ≡ Ok v → P v)
     → (n i : ℕ) (held views : List CellView) → screened_from cell n i held ≡ map Accepts views → AllByRecursion P views
@@ -122,7 +111,7 @@ all_screened P cell good (suc n) i held [] is = tt
 all_screened P cell good (suc n) i held (v ∷ views) is =
     let first : verdict_on (cell i) held ≡ Accepts v = cc in
     let later : screened_from cell n (i + 1) (held_with (verdict_on (cell i) held) held) ≡ map Accepts views = cc in
-    (good i v (on_cell (cell i) held v first), all_screened P cell good n (i + 1) (held_with (verdict_on (cell i) held) held) views later)
+    (good i v (accepted_read (cell i) held v first), all_screened P cell good n (i + 1) (held_with (verdict_on (cell i) held) held) views later)
 
 pub all_sit : (page : List ℕ) (usable pages : ℕ) (shape : PageShape) (views : List CellView) → verdicts page usable pages shape ≡ map Accepts views
     → AllByRecursion (Sits (has_payload shape.kind shape.leaf) page) views

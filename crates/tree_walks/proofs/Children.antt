@@ -13,6 +13,7 @@ use Rattle.cell_reader.specs.Screen.{Verdict, Accepts, accepted_from, pointers_i
 use Rattle.cell_reader.specs.Shape.{right_of}
 use Rattle.page_walk.specs.Pointers.{pointers_on, pointers_with}
 use Rattle.page_walk.specs.Walk.{children, kind_on, same_kind}
+use Rattle.page_walk.proofs.Trees.{same_kind_self}
 use Rattle.tree_forms.specs.Laws.{IsRead}
 use Rattle.tree_forms.specs.Node.{Held, Node, child_of, held_of, node_of, number_in}
 use Rattle.tree_forms.specs.Tree.{IsTree, Row}
@@ -102,10 +103,6 @@ no_pointers f p n r leaf =
 pub filter_same : {X : Type 0} (t : X → Bool) (xs : List X) → AllByRecursion (λ x. t x ≡ true) xs → filter t xs ≡ xs
 filter_same t [] all = refl
 filter_same {X} t (x ∷ xs) all = rw all.0 (ap (λ (ys : List X). x ∷ ys) (filter_same t xs all.1))
-
-same_kind_self : (kind : Kind) → same_kind (Some kind) (Some kind) ≡ true
-same_kind_self Table = refl
-same_kind_self Index = refl
 
 -- the children of a page of a tree are those that it says
 pub children_are : (f : File) (kind : Kind) (r d p : ℕ) (t : IsTree (node_of f) kind r (suc d) p) → children f p ≡ kids t.0

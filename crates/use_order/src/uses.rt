@@ -1,8 +1,8 @@
 //! The uses of pages, in order.
-ghost use Rattle.std.specs.Prelude.{◌≡◌, ◌≤◌, ◌*◌, ◌^◌, length, map, IfOk, IfSome, is_ok, if◌then◌else◌};
+ghost use Rattle.std.specs.Prelude.{◌≡◌, ◌≤◌, ◌*◌, length, map, IfOk, IfSome, is_ok, if◌then◌else◌};
 ghost use Rattle.std.specs.List.{AllByRecursion};
 ghost use Rattle.page_access.specs.Cache.{HasAll, IsCacheOf};
-ghost use Rattle.page_access.specs.Files.{file_of};
+ghost use Rattle.page_access.specs.Files.{file_of, max_input};
 ghost use Rattle.page_access.specs.Outside.{HasCauseOf, KeepsSource};
 ghost use Rattle.page_access.specs.declared.outside.ReadFault.TheVariants as faults;
 ghost use Rattle.page_lists.specs.Table.{unused};
@@ -50,7 +50,7 @@ pub fn find_uses<S: Source>(
     survey: &PageKinds,
     table: &mut PageTable,
 ) -> Result<FileUses, ReadFault>
-    requires few { geo.now.pages * geo.now.page_size ≤ 2 ^ 28 }
+    requires few { geo.now.pages * geo.now.page_size ≤ max_input }
     requires same_pages { table.old.pages ≡ geo.now.pages }
     requires lists { 7 ≤ length table.old.lists }
     requires surveyed { length survey.now ≡ geo.now.pages }

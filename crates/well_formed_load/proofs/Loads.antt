@@ -3,6 +3,7 @@ use Rattle.std.proofs.Common.{◌≡◌, ◌<◌, ◌≤◌, inl, inr, ℕ, ◌+
 use Rattle.std.specs.Prelude.{if◌then◌else◌, is_none}
 use Rattle.std.specs.List.{concat}
 use Rattle.std.proofs.Math.Nat.{mul-le-mul_right}
+use Rattle.page_access.specs.Files.{max_input}
 use Rattle.page_lists.specs.Lists.{count}
 use Rattle.page_lists.specs.Table.{is_page}
 use Rattle.page_lists.proofs.Counts.{count-append}
@@ -64,7 +65,7 @@ kinds_apart row stored = by row.kind (is_none row.sql) stored
 
 -- ---- the load
 
-formed_load : (bytes : List ℕ) (db : OutDb) → IsValid db → length bytes ≤ 2 ^ 28 → IsWellFormed bytes (database_of db) → load db < 8 * length bytes
+formed_load : (bytes : List ℕ) (db : OutDb) → IsValid db → length bytes ≤ max_input → IsWellFormed bytes (database_of db) → load db < 8 * length bytes
 formed_load bytes db good few w =
     let f = file_in bytes in
     let ts = db.tables.items in

@@ -6,6 +6,7 @@ use Rattle.std.proofs.Math.Nat.{le-div_iff_mul-le, mul-le-mul_left}
 use Rattle.std.proofs.lemmas.Bool.{and_right, cases_Bool, false≢true}
 use Rattle.std.proofs.lemmas.Bool.Decides.{nat_tests}
 use Rattle.byteorder.specs.Endian.{big_number}
+use Rattle.page_access.specs.Files.{max_input}
 use Rattle.page_access.specs.Pages.{File, page_at}
 use Rattle.page_lists.specs.Lists.{IsPartOf, count, firsts, is_in, minus, without}
 use Rattle.page_lists.specs.Table.{is_page}
@@ -206,13 +207,13 @@ at_most_one false = omega arith
 
 -- ---- a well-formed file of at most 2^28 bytes
 
-few_pages : (pages size len : ℕ) → 480 ≤ size → len ≡ pages * size → len ≤ 2 ^ 28 → pages < 2 ^ 24
+few_pages : (pages size len : ℕ) → 480 ≤ size → len ≡ pages * size → len ≤ max_input → pages < 2 ^ 24
 few_pages pages size len big whole small = few_times pages size (mul-le-mul_left pages big) (omega (arith, whole, small))
   where
-    few_times : (n s : ℕ) → n * 480 ≤ n * s → n * s ≤ 2 ^ 28 → n < 2 ^ 24
+    few_times : (n s : ℕ) → n * 480 ≤ n * s → n * s ≤ max_input → n < 2 ^ 24
     few_times n s less most = omega (arith, less, most)
 
-no_lock : (f : File) → 480 ≤ f.size → f.pages * f.size ≤ 2 ^ 28 → lock_pages f ≡ []
+no_lock : (f : File) → 480 ≤ f.size → f.pages * f.size ≤ max_input → lock_pages f ≡ []
 no_lock f big small =
     let less : f.pages ≤ 2 ^ 30 / f.size = (le-div_iff_mul-le {k = f.size} {x = f.pages} {y = 2 ^ 30} (omega (arith, big))).1 (omega (arith, small)) in
     let out : nat_le (2 ^ 30 / f.size + 1) f.pages ≡ false = grind (arith, nat_tests, less) in
@@ -224,7 +225,7 @@ record Sizes (bytes : List ℕ) : Type 0 where
   few : (file_in bytes).pages < 2 ^ 24
   no_lock : lock_pages (file_in bytes) ≡ []
 
-sizes : (bytes : List ℕ) (db : Database) → IsHeader bytes db → length bytes ≤ 2 ^ 28 → Sizes bytes
+sizes : (bytes : List ℕ) (db : Database) → IsHeader bytes db → length bytes ≤ max_input → Sizes bytes
 unfolding file_in
 sizes bytes db h small =
     let f : File = file_in bytes in

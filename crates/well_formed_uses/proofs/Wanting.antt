@@ -14,6 +14,7 @@ use Rattle.create_reader.specs.Outcome.{IsCreate, IsTableText}
 use Rattle.create_reader.proofs.One.{is_related, one_shape}
 use Rattle.page_walk.specs.Kinds.{kind_at}
 use Rattle.page_walk.specs.Walk.{kind_on, kinds_of, page_named}
+use Rattle.page_walk.proofs.Found.{kind_of_page}
 use Rattle.raw_schema.specs.declared.rows.SchemaKind.{SchemaKind}
 use Rattle.raw_schema.specs.declared.rows.SchemaKind.TheVariants.{Table, Index, View, Trigger}
 use Rattle.raw_schema.specs.declared.rows.SchemaRow.{SchemaRow}
@@ -34,14 +35,6 @@ use Rattle.well_formed_uses.specs.Trees.{IsWanted, StoredTree, chains_if, own_ch
 use Rattle.well_formed_uses.proofs.Stored.{stored_is, tree_in}
 
 -- ---- kinds
-
-kind_of_page : (f : File) (q : ℕ) → is_page f.pages q ≡ true → kind_at (kinds_of f) q ≡ kind_on f q
-unfolding kinds_of
-kind_of_page f q page =
-    let parts = and_parts (nat_le 1 q) (nat_le q f.pages) page in
-    let low : 1 ≤ q = leb-true 1 q parts.0 in
-    let high : q ≤ f.pages = leb-true q f.pages parts.1 in
-    get_or-map-range_with_len (kind_on f) 1 f.pages (q - 1) q None (omega arith) (omega arith)
 
 root_kind : (f : File) (q : ℕ) → is_page f.pages q ≡ true → kind_at_root (kinds_of f) f.pages (pos q) ≡ kind_on f q
 root_kind f q page =

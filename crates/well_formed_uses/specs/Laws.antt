@@ -1,7 +1,8 @@
 -- What holds of the uses of the pages of every well-formed file (docs/ARCHITECTURE.md, "Order of use";
 -- docs/FORMAT.md, "A well-formed file").
-use Rattle.std.specs.Prelude.{◌≡◌, ◌≤◌, ◌^◌, ℕ, ◌+◌, true, if◌then◌else◌, None, List, [], length, map}
+use Rattle.std.specs.Prelude.{◌≡◌, ◌≤◌, ℕ, ◌+◌, true, if◌then◌else◌, None, List, [], length, map}
 use Rattle.std.specs.List.{AllByRecursion, concat, flat_map}
+use Rattle.page_access.specs.Files.{max_input}
 use Rattle.page_access.specs.Pages.{File}
 use Rattle.page_lists.specs.Lists.{count, is_in, minus}
 use Rattle.page_lists.specs.Table.{Table, is_page, unused}
@@ -103,5 +104,5 @@ pub record LeavesNone (bytes : List ℕ) (db : Database) (s : IsUsed bytes db) :
 
 -- so it is in each well-formed file of at most 2^28 bytes, when the tables' cells had their turns
 abbrev pub NoneIsLeft : Type 0
-NoneIsLeft = (bytes : List ℕ) (db : Database) (s : IsUsed bytes db) → length bytes ≤ 2 ^ 28
+NoneIsLeft = (bytes : List ℕ) (db : Database) (s : IsUsed bytes db) → length bytes ≤ max_input
     → LeavesNone bytes db s

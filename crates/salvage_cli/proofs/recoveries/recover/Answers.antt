@@ -1,4 +1,5 @@
 use Rattle.std.proofs.Common.{◌≡◌, ◌^◌, ◌∙◌, ℕ, List, Some, Ok, Err, ap, arith, refl, subst, sym}
+use Rattle.page_access.specs.Files.{max_input}
 use Rattle.command_line.specs.Command.{recovery_view}
 use Rattle.command_line.specs.Parts.{Recovers}
 use Rattle.lost_found.specs.Names.{CanBeBase}
@@ -41,7 +42,7 @@ returns-in-Ok-end-clause-ends g c =
       reserved = r.input.reserved;
       freelist_corrupt = r.freelist_corrupt;
       lost = lost;
-      input_limit = 2 ^ 28;
+      input_limit = max_input;
       load_limit = 2 ^ 32;
     } in record {
       end = Ok c.in-Ok-end.field-0;
@@ -63,7 +64,7 @@ returns-clause-ends g c =
       reserved = r.input.reserved;
       freelist_corrupt = r.freelist_corrupt;
       lost = lost;
-      input_limit = 2 ^ 28;
+      input_limit = max_input;
       load_limit = 2 ^ 32;
     } in record {
       end = Err c.in-Err.fault;

@@ -4,6 +4,7 @@ pub mod Planned
 pub mod Whole
 pub mod Roots
 pub mod Taking
+pub mod Firsts
 pub mod Ordered
 pub mod Made
 pub mod Loading

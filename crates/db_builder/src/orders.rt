@@ -1,20 +1,22 @@
 //! The order of the entries of an automatic index.
 
 ghost use Rattle.std.specs.Prelude.{◌≡◌, ◌<◌, ◌^◌, IfOk, length, map};
-ghost use Rattle.key_order.specs.Order.{folded};
+ghost use Rattle.std.specs.Cmp.Lexicographic.{slice_cmp};
+ghost use Rattle.key_order.specs.Order.{folded, value_cmp};
 ghost use Rattle.table_shape.specs.Entries.{in_order};
 ghost use Rattle.table_shape.specs.Keys.{key_of, value_at};
 ghost use Rattle.table_shape.specs.Seen.{row_seen};
-ghost use Rattle.db_builder.specs.Views.{NamesRows, row_at};
+ghost use Rattle.db_builder.specs.Views.{NamesRows, no_row, row_at};
 
 use crate::indexes::number_of;
-use key_order::{FoldedKey, fold};
+use key_order::value_order;
 use record_core::Value;
 use std::alloc::{AllocError, Global};
-use std::collections::BTreeMap;
+use std::cmp::Ordering;
 use table_shape::{KeyPart, OutRow, Spot};
 
-/// The numbers of rows, counted from 0, in the order of a key.
+/// The numbers of rows, counted from 0, in the order of a key; of rows with equal keys the first. Keys are
+/// compared where they lie, so that four bytes a row are all the memory that is taken.
 pub fn order_of(alloc: Global, parts: &[KeyPart], rows: &[OutRow]) -> Result<Vec<u32>, AllocError>
     requires { length rows.now < 2 ^ 32 }
     ensures order { IfOk result (λ v. map (row_at rows.now) v.items
@@ -22,40 +24,76 @@ pub fn order_of(alloc: Global, parts: &[KeyPart], rows: &[OutRow]) -> Result<Vec
     ensures there { IfOk result (λ v. NamesRows v.items (length rows.now)) }
     ensures few { IfOk result (λ v. length v.items < 2 ^ 32) }
 {
-    let mut numbers = BTreeMap::new(alloc);
-    let mut i = rows.len();
-    'rows: while i > 0 {
-        i -= 1;
-        numbers.insert(key_of(alloc, parts, &rows[i])?, i as u32)?;
+    let none = OutRow {
+        rowid: None,
+        fields: Vec::new(alloc),
+    };
+    let keyed = KeyedRows {
+        parts,
+        rows,
+        none: &none,
+    };
+    let mut numbers: Vec<u32> = (0..rows.len() as u32).collect(alloc)?;
+    numbers.sort_unstable_by(|a, b| keyed.order(*a, *b).then(a.cmp(b)));
+    numbers.dedup_by(|later, kept| keyed.order(*later, *kept) == Ordering::Equal);
+    Ok(numbers)
+}
+
+// Rows by the numbers that name them, each with a key. A number that names no row stands for a row without
+// values.
+#[derive(Clone, Copy)]
+struct KeyedRows<'a> {
+    parts: &'a [KeyPart],
+    rows: &'a [OutRow],
+    none: &'a OutRow,
+    ghost empty: { row_seen none.now ≡ no_row },
+}
+
+impl<'a> KeyedRows<'a> {
+    // The order of the keys of two rows.
+    fn order(&self, a: u32, b: u32) -> Ordering
+        ensures { result ≡ slice_cmp value_cmp (key_of self.now.parts.now (row_at self.now.rows.now a))
+            (key_of self.now.parts.now (row_at self.now.rows.now b)) }
+    {
+        keys_order(self.parts, self.row(a), self.row(b))
     }
-    in_order(alloc, numbers)
+
+    fn row(&self, number: u32) -> &OutRow
+        ensures { row_seen result.now ≡ row_at self.now.rows.now number }
+    {
+        match self.rows.get(number as usize) {
+            Some(row) => row,
+            None => self.none,
+        }
+    }
 }
 
-fn in_order(alloc: Global, numbers: BTreeMap<FoldedKey, u32>) -> Result<Vec<u32>, AllocError>
-    ensures { IfOk result (λ v. v.items ≡ map (λ e. e.1) numbers.entries) }
+// The order of two rows by the first part of their keys that differs.
+fn keys_order(parts: &[KeyPart], a: &OutRow, b: &OutRow) -> Ordering
+    ensures { result ≡ slice_cmp value_cmp (key_of parts.now (row_seen a.now))
+        (key_of parts.now (row_seen b.now)) }
 {
-    numbers.into_values().collect(alloc)
-}
-
-// The key of a row as its collations see it.
-fn key_of(alloc: Global, parts: &[KeyPart], row: &OutRow) -> Result<FoldedKey, AllocError>
-    ensures { IfOk result (λ k. k ≡ key_of parts.now (row_seen row.now)) }
-{
-    let mut values = Vec::with_capacity(alloc, parts.len())?;
     for part in parts {
-        values.push(folded_at(alloc, part, row)?)?;
+        let order = part_order(part, a, b);
+        if order != Ordering::Equal {
+            return order;
+        }
     }
-    Ok(FoldedKey::of(values))
+    Ordering::Equal
 }
 
-fn folded_at(alloc: Global, part: &KeyPart, row: &OutRow) -> Result<Value, AllocError>
-    ensures { IfOk result (λ v. v ≡ folded part.now.coll (value_at (row_seen row.now) part.now.spot)) }
+// The order of the values of two rows at a part of a key, as its collation sees them.
+fn part_order(part: &KeyPart, a: &OutRow, b: &OutRow) -> Ordering
+    ensures { result ≡ value_cmp (folded part.now.coll (value_at (row_seen a.now) part.now.spot))
+        (folded part.now.coll (value_at (row_seen b.now) part.now.spot)) }
 {
     match part.spot {
-        Spot::Rowid => Ok(number_of(row.rowid)),
-        Spot::Field(i) => match row.fields.get(i) {
-            Some(value) => fold(alloc, value, part.coll),
-            None => Ok(Value::Null),
-        },
+        Spot::Rowid => value_order(&number_of(a.rowid), &number_of(b.rowid), part.coll),
+        Spot::Field(i) => {
+            let null = Value::Null;
+            let first = a.fields.get(i).unwrap_or(&null);
+            let second = b.fields.get(i).unwrap_or(&null);
+            value_order(first, second, part.coll)
+        }
     }
 }

@@ -103,8 +103,10 @@ fn has_order(text: &[u8], coll: Coll) -> bool
     }
 }
 
-fn value_order(a: &Value, b: &Value, coll: Coll) -> Ordering
-    ensures { result ≡ value_cmp (folded coll a.now) (folded coll b.now) }
+/// Orders two values as the collation sees them, where they lie: takes no memory and has no conditions. A
+/// floating point number comes behind all other values, and any two of them are equal here.
+pub fn value_order(a: &Value, b: &Value, coll: Coll) -> Ordering
+    ensures value { result ≡ value_cmp (folded coll a.now) (folded coll b.now) }
 {
     match (a, b) {
         (Value::Whole(m), Value::Whole(n)) => m.cmp(n),

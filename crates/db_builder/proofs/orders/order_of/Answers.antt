@@ -1,23 +1,34 @@
-use Rattle.std.proofs.Common.{◌≡◌, ◌∙◌, ◌-◌, ap, sym, subst, arith, map, length, List, ℕ}
-use Rattle.db_builder.specs.Views.{NamesRows, row_at}
-use Rattle.std.proofs.lemmas.Result.{IfOk-weaker}
-use Rattle.db_builder.proofs.Ordered.{Mapped, mapped_few, mapped_more, mapped_order, mapped_start, mapped_there}
+use Rattle.std.proofs.Common.{◌≡◌, sym, subst, length, rules, List, ℕ}
+use Rattle.std.proofs.lemmas.Cmp.{nat_cmp_total, then_total}
+use Rattle.std.proofs.lemmas.Fn.{always_returns_same, dedup_same}
+use Rattle.std.proofs.lemmas.List.Sorted.{ranks_by}
+use Rattle.std.specs.List.{dedup, range_with_len}
+use Rattle.std.specs.List.Sorted.{IsPermutation, IsSorted}
+use Rattle.std.specs.Ordering.{eq_by_cmp, is_lt}
+use Rattle.db_builder.proofs.Firsts.{AreFirsts, by_place, firsts_sorted}
+use Rattle.db_builder.proofs.Ordered.{names_rows, rows_cmp, rows_in_order, rows_total}
 use Rattle.db_builder.proofs.orders.order_of.Goals as goal
-
-pub rows-init : goal.rows-init
-rows-init c = mapped_start c.args.parts.now c.args.rows.now _ c.new-numbers.ensures.empty
-
-pub rows-preserved : goal.rows-preserved
-rows-preserved c =
-    mapped_more c.args.parts.now c.args.rows.now c.rows.i (c.rows.i - 1) _ _ c.in_ok-key_of.field-0 c.index-rows-i.result c.rows.invariant (omega (arith, c.rows-test.true))
-    c.index-rows-i.is c.in_ok-key_of.ensures c.in_ok-insert.ensures.entries
 
 pub returns : goal.returns
 returns c =
-    let none : c.rows.i ≡ 0 = omega (arith, c.rows-test.false) in
-    let m : Mapped c.args.parts.now c.args.rows.now 0 c.rows.numbers.entries = subst (λ (n : ℕ). Mapped c.args.parts.now c.args.rows.now n c.rows.numbers.entries) none c.rows.invariant in
+    let parts = c.args.parts.now in
+    let rows = c.args.rows.now in
+    let n = length rows in
+    let R = rows_cmp parts rows in
+    let total = rows_total parts rows in
+    let found = c.sort_unstable_by.new.self.items in
+    let left = c.dedup_by.new.self.items in
+    let all : c.in_ok-numbers.numbers.items ≡ range_with_len 0 n = search rules in
+    let sorted : IsSorted (by_place R) found =
+    c.sort_unstable_by.ensures.sorted (λ x y. is_lt (by_place R x y)) (ranks_by (then_total total nat_cmp_total) (λ a. a))
+    (always_returns_same _ (λ a r. is_lt r ≡ is_lt (by_place R a.0.now a.1.0.now)) _ (λ a r f k. search rules)) in
+    let kept : left ≡ dedup (eq_by_cmp R) found =
+    dedup_same _ (eq_by_cmp R) _ (λ x y b f x' y' k. search rules) _ _ c.dedup_by.ensures.filtered in
+    let moved : IsPermutation (range_with_len 0 n) found =
+    subst (λ (xs : List ℕ). IsPermutation xs found) all c.sort_unstable_by.ensures.permutation in
+    let firsts : AreFirsts R n left = subst (AreFirsts R n) (sym kept) (firsts_sorted total n found moved sorted) in
     record {
-      order = IfOk-weaker c.in_order.result _ _ (λ v e. ap (map (row_at c.args.rows.now)) e ∙ mapped_order c.args.parts.now c.args.rows.now _ m) c.in_order.ensures;
-      there = IfOk-weaker c.in_order.result _ _ (λ v e. subst (λ (xs : List ℕ). NamesRows xs (length c.args.rows.now)) (sym e) (mapped_there c.args.parts.now c.args.rows.now 0 _ m)) c.in_order.ensures;
-      few = IfOk-weaker c.in_order.result _ _ (λ v e. omega (arith, ap length e, mapped_few c.args.parts.now c.args.rows.now 0 _ m, c.requires)) c.in_order.ensures;
+      order = rows_in_order parts rows left firsts;
+      there = names_rows n left firsts.below;
+      few = search rules;
     }

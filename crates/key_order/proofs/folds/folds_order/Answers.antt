@@ -20,7 +20,7 @@ loop-i-preserved c =
       second = omega arith;
       same = sym (leaves c.value_order-order.result _ (sym c.ne.ensures ∙ c.if-ne.false))
           ∙ folds_step c.args.a.now c.args.b.now c.loop-i.i _ _ _ c.loop-i-test.true c.if-i-b.true
-          c.index-a-i.is c.index-b-i.is c.value_order-order.ensures
+          c.index-a-i.is c.index-b-i.is c.value_order-order.ensures.value
           ∙ c.loop-i.invariant.same;
     }
 
@@ -28,5 +28,5 @@ pub returns-then-ne : goal.returns-then-ne
 returns-then-ne c =
     sym (decides c.value_order-order.result _ (sym c.ne.ensures ∙ c.if-ne.true))
     ∙ folds_step c.args.a.now c.args.b.now c.loop-i.i _ _ _ c.loop-i-test.true c.if-i-b.true
-    c.index-a-i.is c.index-b-i.is c.value_order-order.ensures
+    c.index-a-i.is c.index-b-i.is c.value_order-order.ensures.value
     ∙ c.loop-i.invariant.same

@@ -1,5 +1,5 @@
 -- The first numbers of each key, in the order of keys: a sort and a dedup give them, and there is one such list.
-use Rattle.std.proofs.Common.{◌≡◌, ◌∙◌, ◌⊎◌, ◌≤◌, ◌<◌, inl, inr, refl, sym, ap, subst, ℕ, ◌+◌, zero, suc, true, false, List, [], ◌∷◌, length, get_or, arith}
+use Rattle.std.proofs.Common.{◌≡◌, ◌∙◌, ◌⊎◌, ◌≤◌, ◌<◌, inl, inr, refl, sym, ap, subst, ℕ, zero, suc, true, false, List, [], ◌∷◌, length, get_or, arith}
 use Rattle.std.specs.Prelude.{⊤}
 use Rattle.std.specs.Cmp.{IsTotalOrder}
 use Rattle.std.specs.List.{All, AllByRecursion, Contains, dedup, dedup_from, range_with_len}
@@ -53,9 +53,10 @@ Rises R (x ∷ xs) = AllByRecursion (λ y. is_lt (by_place R y x) ≡ false) xs 
 rises_of : (R : ℕ → ℕ → Ordering) (xs : List ℕ)
     → ((i j d : ℕ) → i < j → j < length xs → is_lt (by_place R (get_or xs j d) (get_or xs i d)) ≡ false) → Rises R xs
 rises_of R [] far = tt
-rises_of R (x ∷ xs) far =
-    (recursion_from_All (λ y. is_lt (by_place R y x) ≡ false) xs (λ k d lt. far 0 (suc k) d (omega arith) (omega arith)),
-      rises_of R xs (λ i j d low lt. far (suc i) (suc j) d (omega arith) (omega arith)))
+rises_of R (x ∷ xs) far = (
+  recursion_from_All (λ y. is_lt (by_place R y x) ≡ false) xs (λ k d lt. far 0 (suc k) d (omega arith) (omega arith)),
+  rises_of R xs (λ i j d low lt. far (suc i) (suc j) d (omega arith) (omega arith)),
+)
 
 first_decides : (a b : Ordering) → is_lt (ordering_then a b) ≡ false → is_lt a ≡ false
 first_decides Less b e = e

@@ -1,11 +1,10 @@
 -- The order of rows by their keys, as the order of their numbers.
-use Rattle.std.proofs.Common.{◌≡◌, ◌∙◌, ◌⊎◌, ◌≤◌, ◌<◌, ◌+◌, inl, inr, ℕ, zero, suc, List, [], ◌∷◌, length, map, get_or, sym, ap, refl, subst, arith}
+use Rattle.std.proofs.Common.{◌≡◌, ◌∙◌, ◌++◌, ◌⊎◌, ◌≤◌, ◌<◌, ◌+◌, inl, inr, ℕ, zero, suc, List, [], ◌∷◌, length, map, get_or, sym, ap, refl, subst, arith}
 use Rattle.std.proofs.lemmas.List.{length-map}
 use Rattle.std.proofs.lemmas.Bool.{cases_eq}
 use Rattle.std.proofs.lemmas.Cmp.{alike_right, on_total, tied_back, tied_itself}
 use Rattle.std.proofs.lemmas.List.Elements.{All-from_recursion, recursion_from_All}
 use Rattle.std.proofs.lemmas.List.FromFn.{fill_by_all}
-use Rattle.std.proofs.lemmas.Map.Keys.{sorted_head, sorted_tail}
 use Rattle.std.proofs.lemmas.Map.Views.{All-keys-insert_entry, All-values-insert_entry}
 use Rattle.std.specs.Cmp.{IsTotalOrder}
 use Rattle.std.specs.Cmp.Lexicographic.{slice_cmp}
@@ -21,7 +20,7 @@ use Rattle.record_core.specs.declared.values.Value.{Value}
 use Rattle.table_shape.specs.declared.keys.KeyPart.{KeyPart}
 use Rattle.table_shape.specs.declared.rows.OutRow.{OutRow}
 use Rattle.table_shape.specs.Entries.{in_order}
-use Rattle.table_shape.specs.Keys.{StoredRow, key_of}
+use Rattle.table_shape.specs.Keys.{key_of}
 use Rattle.table_shape.specs.Seen.{row_seen}
 use Rattle.db_builder.specs.Views.{NamesRows, no_row, row_at}
 use Rattle.db_builder.proofs.Firsts.{AreFirsts, Has, IsLed, firsts_same}
@@ -85,14 +84,17 @@ module _ {K : Type 0} {cmp : K → K → Ordering} (o : IsTotalOrder cmp) (key :
           recursion_from_All (λ y. cmp (key j) y ≡ Less) (map (λ e. e.0) es)
           (λ k d lt. o.trans (key j) e.0 (get_or (map (λ e. e.0) es) k d) (is ∙ less)
           (All-from_recursion (λ y. cmp e.0 y ≡ Less) (map (λ e. e.0) es) s.0 k d lt))
+
       by : (r : Ordering) → cmp (key j) e.0 ≡ r → IsStrictlySortedBy cmp (map (λ e. e.0) (insert_entry cmp es (key j) j))
           → IsStrictlySortedBy cmp (map (λ e. e.0) (match_ordering r ((key j, j) ∷ e ∷ es) ((e.0, j) ∷ es) (e ∷ insert_entry cmp es (key j) j)))
       by Less is more = ((is, above Less is refl), s)
       by Equal is more = s
-      by Greater is more =
-          (recursion_from_All (λ y. cmp e.0 y ≡ Less) (map (λ e. e.0) (insert_entry cmp es (key j) j))
-          (All-keys-insert_entry cmp (key j) j (λ y. cmp e.0 y ≡ Less) es (All-from_recursion (λ y. cmp e.0 y ≡ Less) (map (λ e. e.0) es) s.0)
-          (o.antisymm e.0 (key j) ∙ ap ordering_reverse is)), more)
+      by Greater is more = (
+        recursion_from_All (λ y. cmp e.0 y ≡ Less) (map (λ e. e.0) (insert_entry cmp es (key j) j))
+            (All-keys-insert_entry cmp (key j) j (λ y. cmp e.0 y ≡ Less) es (All-from_recursion (λ y. cmp e.0 y ≡ Less) (map (λ e. e.0) es) s.0)
+            (o.antisymm e.0 (key j) ∙ ap ordering_reverse is)),
+        more,
+      )
 
   has_new : (es : List (K × ℕ)) (j : ℕ) → Has (map (λ e. e.1) (insert_entry cmp es (key j) j)) j
   has_new [] j = inl refl
@@ -183,6 +185,14 @@ firsts_in_order key n =
     }
 
 -- ---- numbers of rows
+
+-- numbers from a on, one more
+pub range_more : (a n j : ℕ) → a + n ≡ j → range_with_len a (n + 1) ≡ range_with_len a n ++ j ∷ []
+range_more a n j is = subst (λ m. range_with_len a m ≡ range_with_len a n ++ j ∷ []) (let e : suc n ≡ n + 1 = omega arith in e) (more a n j is)
+  where
+    more : (a n j : ℕ) → a + n ≡ j → range_with_len a (suc n) ≡ range_with_len a n ++ j ∷ []
+    more a zero j is = let e : a ≡ j = omega arith in ap (λ x. x ∷ []) e
+    more a (suc n) j is = ap (λ xs. a ∷ xs) (more (a + 1) n j (omega arith))
 
 -- rows by their keys
 abbrev pub rows_cmp : List KeyPart → List OutRow → ℕ → ℕ → Ordering

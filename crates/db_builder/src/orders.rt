@@ -2,6 +2,7 @@
 
 ghost use Rattle.std.specs.Prelude.{◌≡◌, ◌<◌, ◌^◌, IfOk, length, map};
 ghost use Rattle.std.specs.Cmp.Lexicographic.{slice_cmp};
+ghost use Rattle.std.specs.List.{range_with_len};
 ghost use Rattle.key_order.specs.Order.{folded, value_cmp};
 ghost use Rattle.table_shape.specs.Entries.{in_order};
 ghost use Rattle.table_shape.specs.Keys.{key_of, value_at};
@@ -33,9 +34,20 @@ pub fn order_of(alloc: Global, parts: &[KeyPart], rows: &[OutRow]) -> Result<Vec
         rows,
         none: &none,
     };
-    let mut numbers: Vec<u32> = (0..rows.len() as u32).collect(alloc)?;
+    let mut numbers = numbers_below(alloc, rows.len() as u32)?;
     numbers.sort_unstable_by(|a, b| keyed.order(*a, *b).then(a.cmp(b)));
     numbers.dedup_by(|later, kept| keyed.order(*later, *kept) == Ordering::Equal);
+    Ok(numbers)
+}
+
+// The numbers below a number, as they rise.
+fn numbers_below(alloc: Global, count: u32) -> Result<Vec<u32>, AllocError>
+    ensures { IfOk result (λ v. v.items ≡ range_with_len 0 count) }
+{
+    let mut numbers = Vec::with_capacity(alloc, count as usize)?;
+    for number in 0..count {
+        numbers.push(number)?;
+    }
     Ok(numbers)
 }
 

@@ -1,4 +1,5 @@
-use Rattle.std.proofs.Common.{◌≡◌, sym, subst, length, rules, List, ℕ}
+use Rattle.std.proofs.Common.{◌≡◌, ap, arith, sym, subst, length, rules, List, ℕ}
+use Rattle.std.proofs.lemmas.List.FromFn.{length-range_with_len}
 use Rattle.std.proofs.lemmas.Cmp.{nat_cmp_total, then_total}
 use Rattle.std.proofs.lemmas.Fn.{always_returns_same, dedup_same}
 use Rattle.std.proofs.lemmas.List.Sorted.{ranks_by}
@@ -18,7 +19,7 @@ returns c =
     let total = rows_total parts rows in
     let found = c.sort_unstable_by.new.self.items in
     let left = c.dedup_by.new.self.items in
-    let all : c.in_ok-numbers.numbers.items ≡ range_with_len 0 n = search rules in
+    let all : c.in_ok-numbers.numbers.items ≡ range_with_len 0 n = c.in_ok-numbers.ensures in
     let sorted : IsSorted (by_place R) found =
     c.sort_unstable_by.ensures.sorted (λ x y. is_lt (by_place R x y)) (ranks_by (then_total total nat_cmp_total) (λ a. a))
     (always_returns_same _ (λ a r. is_lt r ≡ is_lt (by_place R a.0.now a.1.0.now)) _ (λ a r f k. search rules)) in
@@ -30,5 +31,14 @@ returns c =
     record {
       order = rows_in_order parts rows left firsts;
       there = names_rows n left firsts.below;
-      few = search rules;
+      few = omega (
+        arith,
+        c.requires,
+        c.dedup_by.ensures.bound,
+        c.dedup_by.new.self.ok.0,
+        c.sort_unstable_by.ensures.len,
+        c.in_ok-numbers.numbers.ok.0,
+        ap length all,
+        length-range_with_len 0 n,
+      );
     }

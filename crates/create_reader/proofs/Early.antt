@@ -1,4 +1,4 @@
--- Faults that the words tell before a text is taken apart, and lists that are bad by their length.
+-- Faults that the words tell before a text is taken apart.
 use Rattle.std.proofs.Common.{◌≡◌, refl, sym, ap, ◌∙◌, arith, ℕ, suc, ◌<◌, cond, Bool, true, false, if◌then◌else◌, Some, List, [], ◌∷◌, length, filter, count_by}
 use Rattle.std.proofs.lemmas.Bool.{lt-ltb}
 use Rattle.std.proofs.lemmas.List.Sums.{length-filter}

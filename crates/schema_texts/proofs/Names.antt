@@ -14,7 +14,8 @@ use Rattle.cell_reader.specs.declared.shapes.Kind.{Kind}
 use Rattle.page_walk.proofs.Going.{all_append}
 use Rattle.raw_schema.specs.declared.rows.SchemaRow.{SchemaRow}
 use Rattle.table_shape.specs.Names.{is_named}
-use Rattle.schema_texts.specs.Known.{AreRead, Knows, name_cmp}
+use Rattle.create_reader.specs.Index.{name_cmp}
+use Rattle.schema_texts.specs.Known.{AreRead, Knows}
 use Rattle.schema_texts.specs.Readings.{IsReading, IsReadingIn, is_table, table_names, tables_from}
 use Rattle.schema_texts.specs.declared.readings.TableReading.{TableReading}
 

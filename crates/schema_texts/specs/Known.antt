@@ -1,21 +1,15 @@
 -- Names that were met, in a set that is searched in the time of a few comparisons.
 use Rattle.std.specs.Prelude.{◌≡◌, ℕ, Bool, Option, List, Vec, [], ◌∷◌, ◌++◌, map, take, drop}
 use Rattle.std.specs.declared.alloc.Global.{Global}
-use Rattle.std.specs.declared.cmp.Ordering.{Ordering}
 use Rattle.std.specs.BTreeSet.{BTreeSet, contains}
-use Rattle.std.specs.Cmp.Lexicographic.{slice_cmp}
 use Rattle.std.specs.List.{AllByRecursion, list_any}
-use Rattle.std.specs.Ordering.{nat_cmp}
 use Rattle.std.specs.Str.{bytes_eq, str_to_ascii_lowercase}
 use Rattle.cell_reader.specs.declared.shapes.Kind.{Kind}
 use Rattle.raw_schema.specs.declared.rows.SchemaRow.{SchemaRow}
 use Rattle.table_shape.specs.Names.{is_named}
+use Rattle.create_reader.specs.Index.{name_cmp}
 use Rattle.schema_texts.specs.Readings.{IsReadingIn, table_names, tables_from}
 use Rattle.schema_texts.specs.declared.readings.TableReading.{TableReading}
-
--- names in the order of their bytes
-abbrev pub name_cmp : Vec ℕ Global → Vec ℕ Global → Ordering
-name_cmp a b = slice_cmp nat_cmp a.items b.items
 
 -- the set has these names, their capitals made small, and no others
 abbrev pub Knows : BTreeSet (Vec ℕ Global) → List (List ℕ) → Type 0

@@ -14,7 +14,7 @@ use Rattle.create_reader.specs.Constraints.{Table, table_of}
 use Rattle.create_reader.specs.Faults.{first_fault, over_limit}
 use Rattle.create_reader.specs.Laws.{IsOnly, IsOnlyFault, IsRelated, IsValid, IsWithin, OneShape}
 use Rattle.create_reader.specs.Meaning.{shape_of}
-use Rattle.create_reader.specs.Outcome.{Found, HasFault, HasOutcome, IsCreate, IsRead, LeavesAt, Means}
+use Rattle.create_reader.specs.Outcome.{IsAnswer, HasFault, HasOutcome, IsCreate, IsRead, LeavesAt, Means}
 use Rattle.table_shape.specs.declared.shapes.TableShape.{TableShape}
 use Rattle.table_shape.specs.Seen.{shape_seen}
 use Rattle.table_shape.specs.Shape.{IsShape, Shape}
@@ -122,7 +122,7 @@ is_within sql shape h small = by_limit (over_limit h.t) refl
 -- ---- what is answered
 
 pub told : (sql : List ℕ) (said : List Said) (t : Table) (result : Result TableShape CreateFault)
-    → is_virtual sql ≡ false → IsSaid sql said → t ≡ table_of sql said → Means t result → Found sql result
+    → is_virtual sql ≡ false → IsSaid sql said → t ≡ table_of sql said → Means t result → IsAnswer sql result
 told sql said t (Ok shape) v s e m = record {
   plain = v;
   t = t;
@@ -214,7 +214,7 @@ one_fault sql Memory Limit m n h g = absurd (m refl)
 one_fault sql Memory Key m n h g = absurd (m refl)
 one_fault sql Memory Memory m n h g = absurd (m refl)
 
-pub only : (sql : List ℕ) (result : Result TableShape CreateFault) → Found sql result → IsOnly sql result
+pub only : (sql : List ℕ) (result : Result TableShape CreateFault) → IsAnswer sql result → IsOnly sql result
 only sql (Ok found) f shape h = f.means ∙ (ap shape_of (one_table sql f.t h.t f.read h.read) ∙ sym h.means)
 only sql (Err Virtual) f shape h = absurd (no_virtual sql f h.plain)
 only sql (Err (Form at)) f shape h = absurd (no_form sql at h.t f h.read)
@@ -223,6 +223,6 @@ only sql (Err Limit) f shape h = absurd (no_outcome sql shape Limit h f)
 only sql (Err Key) f shape h = absurd (no_outcome sql shape Key h f)
 only sql (Err Memory) f shape h = refl
 
-pub only_fault : (sql : List ℕ) (result : Result TableShape CreateFault) → Found sql result → IsOnlyFault sql result
+pub only_fault : (sql : List ℕ) (result : Result TableShape CreateFault) → IsAnswer sql result → IsOnlyFault sql result
 only_fault sql (Ok found) f fault m h = no_fault_beside sql (shape_seen found) fault f m h
 only_fault sql (Err other) f fault m h = λ n. one_fault sql other fault n m f h

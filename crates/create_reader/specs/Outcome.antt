@@ -91,9 +91,9 @@ fault_from (grammar.Form at) = Form at
 fault_from grammar.Memory = Memory
 
 -- what is answered is so
-abbrev pub Found : List ℕ → Result TableShape CreateFault → Type 0
-Found sql (Ok shape) = IsCreate sql (shape_seen shape)
-Found sql (Err fault) = HasFault sql fault
+abbrev pub IsAnswer : List ℕ → Result TableShape CreateFault → Type 0
+IsAnswer sql (Ok shape) = IsCreate sql (shape_seen shape)
+IsAnswer sql (Err fault) = HasFault sql fault
 
 -- ---- the relation of text and shape
 

@@ -1,7 +1,7 @@
 //! Reading a text.
 
 ghost use Rattle.std.specs.Prelude.{◌≡◌, ◌<◌, ◌^◌, length};
-ghost use Rattle.create_reader.specs.Outcome.{Found, fault_from};
+ghost use Rattle.create_reader.specs.Outcome.{IsAnswer, fault_from};
 ghost use Rattle.create_reader.specs.Laws.{IsOnly, IsOnlyFault};
 
 use crate::constraints::{early_fault, table_of};
@@ -16,7 +16,7 @@ use table_shape::TableShape;
 pub fn read_create(alloc: Global, sql: &[u8]) -> Result<TableShape, CreateFault>
     requires { length sql.now < 2 ^ 32 }
     // What is answered is so: the text means the shape without a fault, or has the fault.
-    ensures found { Found sql.now result }
+    ensures found { IsAnswer sql.now result }
     // What is so is answered, unless memory runs out.
     ensures only { IsOnly sql.now result }
     ensures fault { IsOnlyFault sql.now result }
@@ -26,7 +26,7 @@ pub fn read_create(alloc: Global, sql: &[u8]) -> Result<TableShape, CreateFault>
 
 fn read(alloc: Global, sql: &[u8]) -> Result<TableShape, CreateFault>
     requires { length sql.now < 2 ^ 32 }
-    ensures { Found sql.now result }
+    ensures { IsAnswer sql.now result }
 {
     let said = match read_words(alloc, sql) {
         Ok(said) => said,

@@ -17,7 +17,7 @@ use Rattle.salvaged_tables.specs.declared.salvage.Left.{Left}
 use Rattle.salvaged_tables.specs.declared.salvage.SalvagedTables.{SalvagedTables}
 use Rattle.salvaged_tables.specs.Fates.{AreFates, TableFate, IsFate, fate_text, table_of, text_of}
 use Rattle.salvaged_tables.specs.Salvaged.{IsSalvage, failed_seen, lost_seen, script_of}
-use Rattle.salvaged_tables.specs.Steps.{AreFew, AreReady, GainsTable, Going, fate_with, tables_in}
+use Rattle.salvaged_tables.specs.Steps.{AreFew, AreReady, GainsTable, AreSaved, fate_with, tables_in}
 use Rattle.salvaged_tables.proofs.Items.{front, nothing}
 
 -- ---- lists
@@ -52,7 +52,7 @@ pub starts : (rows : List SchemaRow) (rs : List TableReading) (trees : List Tree
     → map (λ (r : TableReading). r.row) rs ≡ tables_from 0 rows → length trees ≡ length rs → length turns ≡ length rs
     → AllByRecursion AreFew (map turns_of turns)
     → v.tables.items ≡ [] → v.places.items ≡ [] → v.lost.items ≡ [] → v.failed.items ≡ [] → v.script.items ≡ [] → v.lines.items ≡ []
-    → Going rows rs trees turns 0 left v
+    → AreSaved rows rs trees turns 0 left v
 starts rows rs trees turns left v rs_are rs_len us_are us_len first numbers trees_len turns_len few tables places lost failed script lines = record {
   fates = [];
   are = λ rest h. subst (λ (xs : List TableReading). AreFates rows xs (map tree_of trees) (map turns_of turns) rest) rs_are
@@ -73,7 +73,7 @@ starts rows rs trees turns left v rs_are rs_len us_are us_len first numbers tree
 }
 
 pub ends : (rows : List SchemaRow) (rs : List TableReading) (trees : List TreeUse) (turns : List TreeTurns) (i : ℕ) (left : Left) (v : SalvagedTables)
-    → drop i rows ≡ [] → Going rows rs trees turns i left v → IsSalvage rows rs (map tree_of trees) (map turns_of turns) v
+    → drop i rows ≡ [] → AreSaved rows rs trees turns i left v → IsSalvage rows rs (map tree_of trees) (map turns_of turns) v
 ends rows rs trees turns i left v all was =
     let none : into_iter_items left.readings ≡ [] =
     none_mapped (λ (r : TableReading). r.row) (into_iter_items left.readings) (was.numbers ∙ ap (tables_from i) all) in
@@ -98,7 +98,7 @@ ends rows rs trees turns i left v all was =
     }
 
 pub is_ready : (rows : List SchemaRow) (rs : List TableReading) (trees : List TreeUse) (turns : List TreeTurns) (i : ℕ) (left : Left) (v : SalvagedTables)
-    → Going rows rs trees turns i left v → AreReady trees left
+    → AreSaved rows rs trees turns i left v → AreReady trees left
 is_ready rows rs trees turns i left v was = record { enough = omega (arith, was.same_trees, was.readings); few = was.few }
 
 -- ---- a row
@@ -106,8 +106,8 @@ is_ready rows rs trees turns i left v was = record { enough = omega (arith, was.
 -- a row that is no table's gives its text
 pub goes_other : (rows : List SchemaRow) (rs : List TableReading) (trees : List TreeUse) (turns : List TreeTurns) (i : ℕ) (left : Left)
     (v : SalvagedTables) (row : SchemaRow) (script : Vec ScriptText Global) → is_table row.kind ≡ false → drop i rows ≡ row ∷ drop (i + 1) rows
-    → script.items ≡ v.script.items ++ text_of None row.sql → Going rows rs trees turns i left v
-    → Going rows rs trees turns (i + 1) left (record v { script = script })
+    → script.items ≡ v.script.items ++ text_of None row.sql → AreSaved rows rs trees turns i left v
+    → AreSaved rows rs trees turns (i + 1) left (record v { script = script })
 goes_other rows rs trees turns i left v row script isnt at more was = record {
   fates = was.fates;
   are = was.are;
@@ -132,7 +132,7 @@ goes_other rows rs trees turns i left v row script isnt at more was = record {
 
 -- there is a reading for a table row
 pub no_reading : (rows : List SchemaRow) (rs : List TableReading) (trees : List TreeUse) (turns : List TreeTurns) (i : ℕ) (left : Left)
-    (v : SalvagedTables) (row : SchemaRow) → is_table row.kind ≡ true → drop i rows ≡ row ∷ drop (i + 1) rows → Going rows rs trees turns i left v
+    (v : SalvagedTables) (row : SchemaRow) → is_table row.kind ≡ true → drop i rows ≡ row ∷ drop (i + 1) rows → AreSaved rows rs trees turns i left v
     → into_iter_len left.readings ≡ 0 → ⊥
 no_reading rows rs trees turns i left v row is at was none =
     let empty : into_iter_items left.readings ≡ [] = none_long (into_iter_items left.readings) (sym was.readings ∙ none) in
@@ -140,7 +140,7 @@ no_reading rows rs trees turns i left v row is at was none =
     nothing _ _ (sym (sym (ap (map (λ (r : TableReading). r.row)) empty) ∙ was.numbers ∙ ap (tables_from i) at ∙ here))
 
 pub no_turns : (rows : List SchemaRow) (rs : List TableReading) (trees : List TreeUse) (turns : List TreeTurns) (i : ℕ) (left : Left)
-    (v : SalvagedTables) (row : SchemaRow) → is_table row.kind ≡ true → drop i rows ≡ row ∷ drop (i + 1) rows → Going rows rs trees turns i left v
+    (v : SalvagedTables) (row : SchemaRow) → is_table row.kind ≡ true → drop i rows ≡ row ∷ drop (i + 1) rows → AreSaved rows rs trees turns i left v
     → into_iter_len left.turns ≡ 0 → ⊥
 no_turns rows rs trees turns i left v row is at was none =
     no_reading rows rs trees turns i left v row is at was (was.readings ∙ sym was.same_turns ∙ sym was.turns_left ∙ none)
@@ -153,7 +153,7 @@ pub goes_table : (rows : List SchemaRow) (rs : List TableReading) (trees : List 
     → into_iter_items left.turns ≡ u ∷ into_iter_items after.turns → into_iter_len after.turns + 1 ≡ into_iter_len left.turns
     → drop left.number trees ≡ tree ∷ drop after.number trees → after.number ≡ left.number + 1 → pages ≡ tree.pages.items
     → GainsTable row r.reading pages (map turn_of u.turns.items) old new
-    → Going rows rs trees turns i left old → Going rows rs trees turns (i + 1) after new
+    → AreSaved rows rs trees turns i left old → AreSaved rows rs trees turns (i + 1) after new
 goes_table rows rs trees turns i left after old new row r tree u pages is at rs_are rs_len us_are us_len ts_are next pages_are gains was =
     let f : TableFate = fate_with row r.reading pages (turns_of u) gains.part in
     let here : tables_from i (row ∷ drop (i + 1) rows) ≡ i ∷ tables_from (i + 1) (drop (i + 1) rows) = rw is refl in

@@ -95,7 +95,7 @@ pub record AreReady (trees : List TreeUse) (left : Left) : Type 0 where
   pub few : AllByRecursion AreFew (map turns_of (into_iter_items left.turns))
 
 -- the rows in front of row i are gone over: those of tables have these fates, and what is left gives the rest
-pub record Going (rows : List SchemaRow) (rs : List TableReading) (trees : List TreeUse)
+pub record AreSaved (rows : List SchemaRow) (rs : List TableReading) (trees : List TreeUse)
     (turns : List TreeTurns) (i : ℕ) (left : Left) (v : SalvagedTables) : Type 0 where
   pub fates : List TableFate
   pub are : (rest : List TableFate)
@@ -122,4 +122,4 @@ abbrev pub Goes : SchemaRow → List TreeUse → Left → Left → SalvagedTable
 Goes row trees before after old new =
     (rows : List SchemaRow) (rs : List TableReading) (turns : List TreeTurns) (i : ℕ)
     → drop i rows ≡ row ∷ drop (i + 1) rows
-    → Going rows rs trees turns i before old → Going rows rs trees turns (i + 1) after new
+    → AreSaved rows rs trees turns i before old → AreSaved rows rs trees turns (i + 1) after new

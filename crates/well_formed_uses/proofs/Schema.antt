@@ -117,14 +117,14 @@ records_there f (h ∷ cells) [] all = absurd all
 records_there f (h ∷ cells) (row ∷ rows) all = (spelled_record f h row all.0, records_there f cells rows all.1)
 
 -- the rows of some cells, and those of the cells behind them
-record Found (f : File) (cells : List Row) (rest : List Held) (rows : List SchemaRow) : Type 0 where
+record ComeBack (f : File) (cells : List Row) (rest : List Held) (rows : List SchemaRow) : Type 0 where
   left : List SchemaRow
   others : AllZip (SpellsEntry f) rest left
   rows_are : rows ≡ all_unplaced (filter_map entry_of cells) ++ left
   none_bad : filter (λ (r : Row). is_none (entry_of r)) cells ≡ []
 
 one_more : (f : File) (p i : ℕ) (h : Held) (row : SchemaRow) (more : List Row) (rest : List Held) (rows : List SchemaRow)
-    → SpellsEntry f h row → Found f more rest rows → Found f (row_at f p i h ∷ more) rest (row ∷ rows)
+    → SpellsEntry f h row → ComeBack f more rest rows → ComeBack f (row_at f p i h ∷ more) rest (row ∷ rows)
 one_more f p i h row more rest rows s found =
     let is : entry_of (row_at f p i h) ≡ Some (placed (record { page = p; cell = i }) row) = spelled_row f p i h row s in
     record {
@@ -135,14 +135,14 @@ one_more f p i h row more rest rows s found =
     }
 
 first_found : (f : File) (p i : ℕ) (h : Held) (more : List Row) (entries rest : List Held) (rows : List SchemaRow)
-    → ((rs : List SchemaRow) → AllZip (SpellsEntry f) (entries ++ rest) rs → Found f more rest rs)
-    → AllZip (SpellsEntry f) (bare h ∷ (entries ++ rest)) rows → Found f (row_at f p i h ∷ more) rest rows
+    → ((rs : List SchemaRow) → AllZip (SpellsEntry f) (entries ++ rest) rs → ComeBack f more rest rs)
+    → AllZip (SpellsEntry f) (bare h ∷ (entries ++ rest)) rows → ComeBack f (row_at f p i h ∷ more) rest rows
 first_found f p i h more entries rest [] below all = absurd all
 first_found f p i h more entries rest (row ∷ rs) below all = one_more f p i h row more rest rs (spelled_back f h row all.0) (below rs all.1)
 
 -- the cells of a page
 on_page : (f : File) (p i : ℕ) (hs : List Held) (rest : List Held) (rows : List SchemaRow) → AllZip (SpellsEntry f) (entries_in hs ++ rest) rows
-    → Found f (rows_from f p i hs) rest rows
+    → ComeBack f (rows_from f p i hs) rest rows
 on_page f p i [] rest rows all = record { left = rows; others = all; rows_are = refl; none_bad = refl }
 on_page f p i (h ∷ hs) rest rows all =
     elim (cases_Bool (h.total == 0)) [

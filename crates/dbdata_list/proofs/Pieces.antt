@@ -1,5 +1,5 @@
 -- Texts of the listings as pieces, one behind the other.
-use Rattle.std.proofs.Common.{◌≡◌, ◌<◌, ◌∙◌, ℕ, ◌+◌, List, [], ◌∷◌, ◌++◌, length, take, drop, get_or, ap, sym, refl, append_assoc}
+use Rattle.std.proofs.Common.{◌≡◌, ◌<◌, ◌∙◌, ℕ, ◌+◌, List, ◌++◌, length, drop, get_or, ap, sym, append_assoc}
 use Rattle.std.specs.Prelude.{decimal}
 use Rattle.std.proofs.lemmas.List.{drop_more}
 use Rattle.record_core.specs.declared.values.Value.{Value}
@@ -7,16 +7,16 @@ use Rattle.line_text.specs.Text.{newline}
 use Rattle.dbdata_list.specs.Text.{field_line, field_text, fields_text, pointer_line, pointer_lines, word_line}
 
 -- a line whose word is put by itself
-pub word_parts : (page cell : ℕ) (field name word : List ℕ) →
-    word_line page cell field name word ≡ (field_text page cell field ++ name) ++ (word ++ newline)
+pub word_parts : (place field name word : List ℕ) →
+    word_line place field name word ≡ (field_text place field ++ name) ++ (word ++ newline)
 unfolding word_line
-word_parts page cell field name word = simp append_assoc
+word_parts place field name word = simp append_assoc
 
 -- the lines from a field on
-pub fields_more : (page cell i : ℕ) (values : List Value) (v : Value) → v ≡ get_or values i v → i < length values →
-    fields_text page cell i (drop i values) ≡ field_line page cell (decimal i) v ++ fields_text page cell (i + 1) (drop (i + 1) values)
-fields_more page cell i values v is lt =
-    ap (fields_text page cell i) (drop_more values i v lt) ∙ ap (λ w. field_line page cell (decimal i) w ++ fields_text page cell (i + 1) (drop (i + 1) values)) (sym is)
+pub fields_more : (place : List ℕ) (i : ℕ) (values : List Value) (v : Value) → v ≡ get_or values i v → i < length values →
+    fields_text place i (drop i values) ≡ field_line place (decimal i) v ++ fields_text place (i + 1) (drop (i + 1) values)
+fields_more place i values v is lt =
+    ap (fields_text place i) (drop_more values i v lt) ∙ ap (λ w. field_line place (decimal i) w ++ fields_text place (i + 1) (drop (i + 1) values)) (sym is)
 
 -- the lines from a child on
 pub pointers_more : (page i : ℕ) (children : List ℕ) (d : ℕ) → i < length children →

@@ -5,31 +5,32 @@ use Rattle.line_text.specs.Text.{cause_text, newline, place_text, value_text}
 use Rattle.page_walk.specs.Cells.{Outcome, Read, Unread}
 use Rattle.record_core.specs.declared.values.Value.TheVariants.{Whole}
 
--- `PAGE CELL FIELD `, which begins the line of a field
-unfoldable pub field_text : ℕ → ℕ → List ℕ → List ℕ
-field_text page cell field = place_text page cell ++ (field ++ codes " ")
+-- `PAGE CELL FIELD `, which begins the line of a field, behind the place `PAGE CELL ` of its cell
+unfoldable pub field_text : List ℕ → List ℕ → List ℕ
+field_text place field = place ++ (field ++ codes " ")
 
 -- the line of a field
-unfoldable pub field_line : ℕ → ℕ → List ℕ → Value → List ℕ
-field_line page cell field value = field_text page cell field ++ (value_text value ++ newline)
+unfoldable pub field_line : List ℕ → List ℕ → Value → List ℕ
+field_line place field value = field_text place field ++ (value_text value ++ newline)
 
 -- the line of a field whose value is a word behind the name of its type
-unfoldable pub word_line : ℕ → ℕ → List ℕ → List ℕ → List ℕ → List ℕ
-word_line page cell field name word = field_text page cell field ++ ((name ++ word) ++ newline)
+unfoldable pub word_line : List ℕ → List ℕ → List ℕ → List ℕ → List ℕ
+word_line place field name word = field_text place field ++ ((name ++ word) ++ newline)
 
 -- the lines of the fields from field i on
-abbrev pub fields_text : ℕ → ℕ → ℕ → List Value → List ℕ
-fields_text page cell i [] = []
-fields_text page cell i (value ∷ values) = field_line page cell (decimal i) value ++ fields_text page cell (i + 1) values
+abbrev pub fields_text : List ℕ → ℕ → List Value → List ℕ
+fields_text place i [] = []
+fields_text place i (value ∷ values) = field_line place (decimal i) value ++ fields_text place (i + 1) values
 
 -- the line of the rowid, as field -1, where there is one
-abbrev pub rowid_text : ℕ → ℕ → Option ℤ → List ℕ
-rowid_text page cell None = []
-rowid_text page cell (Some rowid) = field_line page cell (codes "-1") (Whole rowid)
+abbrev pub rowid_text : List ℕ → Option ℤ → List ℕ
+rowid_text place None = []
+rowid_text place (Some rowid) = field_line place (codes "-1") (Whole rowid)
 
 -- the lines of a row: its rowid, then its fields
 abbrev pub row_text : ℕ → ℕ → Option ℤ → List Value → List ℕ
-row_text page cell rowid values = rowid_text page cell rowid ++ fields_text page cell 0 values
+row_text page cell rowid values =
+    rowid_text (place_text page cell) rowid ++ fields_text (place_text page cell) 0 values
 
 -- the line of a cell that is not read
 unfoldable pub unread_line : ℕ → ℕ → List ℕ → List ℕ

@@ -1,11 +1,11 @@
 //! The lines of a cell.
-ghost use Rattle.std.specs.Prelude.{◌≡◌, ◌≤◌, ◌<◌, ◌+◌, ◌++◌, ℤ, pos, negsuc, length, codes, decimal};
+ghost use Rattle.std.specs.Prelude.{◌≡◌, ◌≤◌, ◌<◌, ◌+◌, ◌++◌, ℤ, pos, negsuc, length, take, codes, decimal};
 ghost use Rattle.std.specs.Fmt.{signed_decimal};
 ghost use Rattle.arrayvec.specs.ArrayVec.{array_vec_len};
 ghost use Rattle.hex.specs.Hex.{encode_lower};
 ghost use Rattle.page_access.specs.Outside.{Writes, KeepsSink};
 ghost use Rattle.record_core.specs.declared.values.Value.TheVariants.{Null, Whole};
-ghost use Rattle.line_text.specs.Text.{newline};
+ghost use Rattle.line_text.specs.Text.{newline, place_text};
 ghost use Rattle.dbdata_list.specs.Text.{field_line, field_text, fields_text, pointer_line, row_text, rowid_text, unread_line, word_line};
 
 use itoa::Buffer;
@@ -25,53 +25,207 @@ pub(crate) fn put_row<R: Sink>(
         (row_text page cell rowid values.now) result }
     ensures kept { KeepsSink R.created R.finished R.faults to.old to.new }
 {
-    put_rowid(to, page, cell, rowid)?;
-    put_fields(to, page, cell, values)
+    let mut line = cell_place(page, cell);
+    put_rowid(to, &mut line, rowid)?;
+    put_fields(to, &mut line, values)
 }
 
+// The place of a cell, which begins each of its lines.
+fn cell_place(page: u32, cell: u32) -> Line
+    ensures text { result.items ≡ place_text page cell }
+    ensures len { array_vec_len result ≤ 42 }
+{
+    place(u64::from(page), u64::from(cell))
+}
+
+// Each of the next functions puts lines behind the place of a cell, which a line holds when it is called and again
+// when it returns.
+
 // Puts the line of the rowid, where there is one.
-fn put_rowid<R: Sink>(to: &mut R, page: u32, cell: u32, rowid: Option<i64>) -> Result<(), Failed>
+fn put_rowid<R: Sink>(to: &mut R, line: &mut Line, rowid: Option<i64>) -> Result<(), Failed>
+    requires { array_vec_len line.old ≤ 42 }
     ensures writes { Writes (R.bytes to.old) (R.bytes to.new) (R.faults to.old) (R.faults to.new)
-        (rowid_text page cell rowid) result }
+        (rowid_text line.old.items rowid) result }
     ensures kept { KeepsSink R.created R.finished R.faults to.old to.new }
+    ensures line { line.new.items ≡ line.old.items }
 {
     match rowid {
-        Some(rowid) => put_whole(to, page, cell, b"-1", rowid),
+        Some(rowid) => put_whole(to, line, b"-1", rowid),
         None => Ok(()),
     }
 }
 
 // Puts the lines of the fields.
-fn put_fields<R: Sink>(to: &mut R, page: u32, cell: u32, values: &[Value]) -> Result<(), Failed>
+fn put_fields<R: Sink>(to: &mut R, line: &mut Line, values: &[Value]) -> Result<(), Failed>
+    requires { array_vec_len line.old ≤ 42 }
     ensures writes { Writes (R.bytes to.old) (R.bytes to.new) (R.faults to.old) (R.faults to.new)
-        (fields_text page cell 0 values.now) result }
+        (fields_text line.old.items 0 values.now) result }
     ensures kept { KeepsSink R.created R.finished R.faults to.old to.new }
 {
     for (field, value) in values.iter().enumerate() {
-        put_numbered(to, page, cell, field, value)?;
+        put_numbered(to, line, field, value)?;
     }
     Ok(())
 }
 
-// Puts the line of a field, fields counted from 0.
+// Puts the line of a field with this number, counted from 0.
 fn put_numbered<R: Sink>(
     to: &mut R,
-    page: u32,
-    cell: u32,
+    line: &mut Line,
     field: usize,
     value: &Value,
 ) -> Result<(), Failed>
+    requires { array_vec_len line.old ≤ 42 }
     ensures writes { Writes (R.bytes to.old) (R.bytes to.new) (R.faults to.old) (R.faults to.new)
-        (field_line page cell (decimal field) value.now) result }
+        (field_line line.old.items (decimal field) value.now) result }
     ensures kept { KeepsSink R.created R.finished R.faults to.old to.new }
+    ensures line { line.new.items ≡ line.old.items }
 {
-    put_field(
+    put_field(to, line, Buffer::new().format(field).as_bytes(), value)
+}
+
+// Puts the line of a field.
+#[tactic(auto, unfolding(crate::specs::Text::field_line, crate::specs::Text::word_line))]
+fn put_field<R: Sink>(
+    to: &mut R,
+    line: &mut Line,
+    field: &[u8],
+    value: &Value,
+) -> Result<(), Failed>
+    requires line { array_vec_len line.old ≤ 42 }
+    requires field { length field.now ≤ 20 }
+    ensures writes { Writes (R.bytes to.old) (R.bytes to.new) (R.faults to.old) (R.faults to.new)
+        (field_line line.old.items field.now value.now) result }
+    ensures kept { KeepsSink R.created R.finished R.faults to.old to.new }
+    ensures line { line.new.items ≡ line.old.items }
+{
+    match value {
+        Value::Null => put_null(to, line, field),
+        Value::Whole(number) => put_whole(to, line, field, *number),
+        Value::Real8(bytes) => put_bytes(to, line, field, b"real:", bytes),
+        Value::Text(bytes) => put_bytes(to, line, field, b"text:", bytes.as_slice()),
+        Value::Blob(bytes) => put_bytes(to, line, field, b"blob:", bytes.as_slice()),
+    }
+}
+
+// Puts the line of a NULL.
+#[tactic(auto, unfolding(crate::specs::Text::field_line, crate::specs::Text::word_line))]
+fn put_null<R: Sink>(to: &mut R, line: &mut Line, field: &[u8]) -> Result<(), Failed>
+    requires line { array_vec_len line.old ≤ 42 }
+    requires field { length field.now ≤ 20 }
+    ensures writes { Writes (R.bytes to.old) (R.bytes to.new) (R.faults to.old) (R.faults to.new)
+        (field_line line.old.items field.now Null) result }
+    ensures kept { KeepsSink R.created R.finished R.faults to.old to.new }
+    ensures line { line.new.items ≡ line.old.items }
+{
+    put_word(to, line, field, b"null", b"")
+}
+
+// Puts the line of a whole number.
+#[tactic(auto, unfolding(crate::specs::Text::field_line, crate::specs::Text::word_line))]
+fn put_whole<R: Sink>(to: &mut R, line: &mut Line, field: &[u8], number: i64) -> Result<(), Failed>
+    requires line { array_vec_len line.old ≤ 42 }
+    requires field { length field.now ≤ 20 }
+    ensures writes { Writes (R.bytes to.old) (R.bytes to.new) (R.faults to.old) (R.faults to.new)
+        (field_line line.old.items field.now (Whole number)) result }
+    ensures kept { KeepsSink R.created R.finished R.faults to.old to.new }
+    ensures line { line.new.items ≡ line.old.items }
+{
+    put_word(
         to,
-        page,
-        cell,
-        Buffer::new().format(field).as_bytes(),
-        value,
+        line,
+        field,
+        b"int:",
+        Buffer::new().format(number).as_bytes(),
     )
+}
+
+// Puts a line that ends in a short word behind the name of its type.
+#[tactic(auto, unfolding(crate::specs::Text::field_text, crate::specs::Text::word_line))]
+fn put_word<R: Sink>(
+    to: &mut R,
+    line: &mut Line,
+    field: &[u8],
+    name: &[u8],
+    word: &[u8],
+) -> Result<(), Failed>
+    requires line { array_vec_len line.old ≤ 42 }
+    requires field { length field.now ≤ 20 }
+    requires word { length name.now + length word.now ≤ 64 }
+    ensures writes { Writes (R.bytes to.old) (R.bytes to.new) (R.faults to.old) (R.faults to.new)
+        (word_line line.old.items field.now name.now word.now) result }
+    ensures kept { KeepsSink R.created R.finished R.faults to.old to.new }
+    ensures line { line.new.items ≡ line.old.items }
+{
+    let place = line.len();
+    add_head(line, field, name);
+    add(line, word);
+    add(line, b"\n");
+    put_line(to, line, place)
+}
+
+// Puts a line that ends in bytes, in hexadecimal digits behind the name of their type.
+fn put_bytes<R: Sink>(
+    to: &mut R,
+    line: &mut Line,
+    field: &[u8],
+    name: &[u8],
+    bytes: &[u8],
+) -> Result<(), Failed>
+    requires line { array_vec_len line.old ≤ 42 }
+    requires field { length field.now ≤ 20 }
+    requires name { length name.now ≤ 8 }
+    ensures writes { Writes (R.bytes to.old) (R.bytes to.new) (R.faults to.old) (R.faults to.new)
+        (word_line line.old.items field.now name.now (encode_lower bytes.now)) result }
+    ensures kept { KeepsSink R.created R.finished R.faults to.old to.new }
+    ensures line { line.new.items ≡ line.old.items }
+{
+    put_name(to, line, field, name)?;
+    put_hex(to, bytes)?;
+    to.put(b"\n")
+}
+
+// Puts the beginning of a field's line, up to the name of its type.
+#[tactic(auto, unfolding(crate::specs::Text::field_text))]
+fn put_name<R: Sink>(to: &mut R, line: &mut Line, field: &[u8], name: &[u8]) -> Result<(), Failed>
+    requires line { array_vec_len line.old ≤ 42 }
+    requires field { length field.now ≤ 20 }
+    requires name { length name.now ≤ 8 }
+    ensures writes { Writes (R.bytes to.old) (R.bytes to.new) (R.faults to.old) (R.faults to.new)
+        (field_text line.old.items field.now ++ name.now) result }
+    ensures kept { KeepsSink R.created R.finished R.faults to.old to.new }
+    ensures line { line.new.items ≡ line.old.items }
+{
+    let place = line.len();
+    add_head(line, field, name);
+    put_line(to, line, place)
+}
+
+// Puts a line, and cuts it back to so many bytes.
+fn put_line<R: Sink>(to: &mut R, line: &mut Line, place: usize) -> Result<(), Failed>
+    ensures writes { Writes (R.bytes to.old) (R.bytes to.new) (R.faults to.old) (R.faults to.new)
+        line.old.items result }
+    ensures kept { KeepsSink R.created R.finished R.faults to.old to.new }
+    ensures line { line.new.items ≡ take place line.old.items }
+{
+    let done = to.put(line.as_slice());
+    line.truncate(place);
+    done
+}
+
+// Appends the number of a field and the name of the type of its value.
+#[tactic(auto, unfolding(crate::specs::Text::field_text))]
+fn add_head(line: &mut Line, field: &[u8], name: &[u8])
+    requires line { array_vec_len line.old ≤ 42 }
+    requires field { length field.now ≤ 20 }
+    requires name { length name.now ≤ 64 }
+    ensures text { line.new.items ≡ field_text line.old.items field.now ++ name.now }
+    ensures len { array_vec_len line.new
+        ≡ array_vec_len line.old + length field.now + 1 + length name.now }
+{
+    add(line, field);
+    add(line, b" ");
+    add(line, name);
 }
 
 /// Puts the line of a cell that is not read.
@@ -87,7 +241,7 @@ pub(crate) fn put_unread<R: Sink>(
         (unread_line page cell cause.now) result }
     ensures kept { KeepsSink R.created R.finished R.faults to.old to.new }
 {
-    let mut line = place(u64::from(page), u64::from(cell));
+    let mut line = cell_place(page, cell);
     add(&mut line, b"unread ");
     add(&mut line, cause.as_bytes());
     add(&mut line, b"\n");
@@ -107,139 +261,4 @@ pub(crate) fn put_pointer<R: Sink>(to: &mut R, page: u32, child: u32) -> Result<
     add(&mut line, Buffer::new().format(child).as_bytes());
     add(&mut line, b"\n");
     to.put(line.as_slice())
-}
-
-// Puts the line of a field.
-#[tactic(auto, unfolding(crate::specs::Text::field_line, crate::specs::Text::word_line))]
-fn put_field<R: Sink>(
-    to: &mut R,
-    page: u32,
-    cell: u32,
-    field: &[u8],
-    value: &Value,
-) -> Result<(), Failed>
-    requires { length field.now ≤ 20 }
-    ensures writes { Writes (R.bytes to.old) (R.bytes to.new) (R.faults to.old) (R.faults to.new)
-        (field_line page cell field.now value.now) result }
-    ensures kept { KeepsSink R.created R.finished R.faults to.old to.new }
-{
-    match value {
-        Value::Null => put_null(to, page, cell, field),
-        Value::Whole(number) => put_whole(to, page, cell, field, *number),
-        Value::Real8(bytes) => put_bytes(to, page, cell, field, b"real:", bytes),
-        Value::Text(bytes) => put_bytes(to, page, cell, field, b"text:", bytes.as_slice()),
-        Value::Blob(bytes) => put_bytes(to, page, cell, field, b"blob:", bytes.as_slice()),
-    }
-}
-
-// Puts the line of a NULL.
-#[tactic(auto, unfolding(crate::specs::Text::field_line))]
-fn put_null<R: Sink>(to: &mut R, page: u32, cell: u32, field: &[u8]) -> Result<(), Failed>
-    requires { length field.now ≤ 20 }
-    ensures writes { Writes (R.bytes to.old) (R.bytes to.new) (R.faults to.old) (R.faults to.new)
-        (field_line page cell field.now Null) result }
-    ensures kept { KeepsSink R.created R.finished R.faults to.old to.new }
-{
-    let mut line = head(page, cell, field);
-    add(&mut line, b"null\n");
-    to.put(line.as_slice())
-}
-
-// Puts the line of a whole number.
-#[tactic(auto, unfolding(crate::specs::Text::field_line, crate::specs::Text::word_line))]
-fn put_whole<R: Sink>(
-    to: &mut R,
-    page: u32,
-    cell: u32,
-    field: &[u8],
-    number: i64,
-) -> Result<(), Failed>
-    requires { length field.now ≤ 20 }
-    ensures writes { Writes (R.bytes to.old) (R.bytes to.new) (R.faults to.old) (R.faults to.new)
-        (field_line page cell field.now (Whole number)) result }
-    ensures kept { KeepsSink R.created R.finished R.faults to.old to.new }
-{
-    put_word(
-        to,
-        page,
-        cell,
-        field,
-        b"int:",
-        Buffer::new().format(number).as_bytes(),
-    )
-}
-
-// Puts a line that ends in a short word behind the name of its type.
-#[tactic(auto, unfolding(crate::specs::Text::word_line))]
-fn put_word<R: Sink>(
-    to: &mut R,
-    page: u32,
-    cell: u32,
-    field: &[u8],
-    name: &[u8],
-    word: &[u8],
-) -> Result<(), Failed>
-    requires field { length field.now ≤ 20 }
-    requires word { length name.now + length word.now ≤ 64 }
-    ensures writes { Writes (R.bytes to.old) (R.bytes to.new) (R.faults to.old) (R.faults to.new)
-        (word_line page cell field.now name.now word.now) result }
-    ensures kept { KeepsSink R.created R.finished R.faults to.old to.new }
-{
-    let mut line = head(page, cell, field);
-    add(&mut line, name);
-    add(&mut line, word);
-    add(&mut line, b"\n");
-    to.put(line.as_slice())
-}
-
-// Puts a line that ends in bytes, in hexadecimal digits behind the name of their type.
-fn put_bytes<R: Sink>(
-    to: &mut R,
-    page: u32,
-    cell: u32,
-    field: &[u8],
-    name: &[u8],
-    bytes: &[u8],
-) -> Result<(), Failed>
-    requires field { length field.now ≤ 20 }
-    requires name { length name.now ≤ 8 }
-    ensures writes { Writes (R.bytes to.old) (R.bytes to.new) (R.faults to.old) (R.faults to.new)
-        (word_line page cell field.now name.now (encode_lower bytes.now)) result }
-    ensures kept { KeepsSink R.created R.finished R.faults to.old to.new }
-{
-    put_name(to, page, cell, field, name)?;
-    put_hex(to, bytes)?;
-    to.put(b"\n")
-}
-
-// Puts the beginning of a field's line, up to the name of its type.
-fn put_name<R: Sink>(
-    to: &mut R,
-    page: u32,
-    cell: u32,
-    field: &[u8],
-    name: &[u8],
-) -> Result<(), Failed>
-    requires field { length field.now ≤ 20 }
-    requires name { length name.now ≤ 8 }
-    ensures writes { Writes (R.bytes to.old) (R.bytes to.new) (R.faults to.old) (R.faults to.new)
-        (field_text page cell field.now ++ name.now) result }
-    ensures kept { KeepsSink R.created R.finished R.faults to.old to.new }
-{
-    let mut line = head(page, cell, field);
-    add(&mut line, name);
-    to.put(line.as_slice())
-}
-
-// The beginning of a field's line, up to its value.
-#[tactic(auto, unfolding(crate::specs::Text::field_text))]
-fn head(page: u32, cell: u32, field: &[u8]) -> Line
-    requires { length field.now ≤ 20 }
-    ensures text { result.items ≡ field_text page cell field.now }
-    ensures len { array_vec_len result ≤ 63 }
-{
-    let mut line = place(u64::from(page), u64::from(cell));
-    add(&mut line, field);
-    add(&mut line, b" ");
-    line
 }

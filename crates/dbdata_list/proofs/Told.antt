@@ -7,7 +7,7 @@ use Rattle.page_access.specs.declared.geometry.Geometry.{Geometry}
 use Rattle.page_walk.specs.Cells.{outcome_of, outcomes_on}
 use Rattle.page_walk.specs.declared.outcomes.CellOutcome.{CellOutcome}
 use Rattle.dbdata_list.specs.declared.faults.ListFault.{ListFault}
-use Rattle.dbdata_list.specs.Text.{outcomes_text}
+use Rattle.dbdata_list.specs.Text.{outcomes_text, page_text}
 use Rattle.page_access.specs.declared.outside.ReadFault.{ReadFault}
 use Rattle.page_access.specs.declared.outside.ReadFault.TheVariants as reads
 use Rattle.dbdata_list.specs.declared.faults.ListFault.TheVariants.{Sink}
@@ -106,8 +106,8 @@ put_failed e (Err x) (Some bytes) old new f g text all is of same w = record {
 -- what was read of a page are its lines
 pub cells_told : (told : Option (List ℕ)) (geo : Geometry) (page : ℕ) (unused : List ℕ) (none cells shown : List CellOutcome) → none ≡ [] → shown ≡ cells
     → IfSome told (λ all. map outcome_of cells ≡ map outcome_of none ++ outcomes_on (file_of all geo) page unused)
-    → IfSome told (λ all. outcomes_text page (map outcome_of shown) ≡ page_data (file_of all geo) page unused)
+    → IfSome told (λ all. outcomes_text (page_text page) (map outcome_of shown) ≡ page_data (file_of all geo) page unused)
 cells_told None geo page unused none cells shown empty same value = tt
 cells_told (Some all) geo page unused none cells shown empty same value =
-    ap (λ (os : List CellOutcome). outcomes_text page (map outcome_of os)) same
-    ∙ ap (outcomes_text page) (value ∙ ap (λ (os : List CellOutcome). map outcome_of os ++ outcomes_on (file_of all geo) page unused) empty)
+    ap (λ (os : List CellOutcome). outcomes_text (page_text page) (map outcome_of os)) same
+    ∙ ap (outcomes_text (page_text page)) (value ∙ ap (λ (os : List CellOutcome). map outcome_of os ++ outcomes_on (file_of all geo) page unused) empty)

@@ -12,11 +12,11 @@ use Rattle.dbdata_list.specs.Listing.{data_text, page_data, pages_data}
 use Rattle.dbdata_list.specs.Text.{outcome_text, outcomes_text}
 
 -- the lines from a cell on
-pub outcomes_more : (page i : ℕ) (cells : List CellOutcome) (c : CellOutcome) → c ≡ get_or cells i c → i < length cells →
-    outcomes_text page (map outcome_of (drop i cells)) ≡ outcome_text page (outcome_of c) ++ outcomes_text page (map outcome_of (drop (i + 1) cells))
-outcomes_more page i cells c is lt =
-    ap (λ cs. outcomes_text page (map outcome_of cs)) (drop_more cells i c lt)
-    ∙ ap (λ d. outcome_text page (outcome_of d) ++ outcomes_text page (map outcome_of (drop (i + 1) cells))) (sym is)
+pub outcomes_more : (start : List ℕ) (i : ℕ) (cells : List CellOutcome) (c : CellOutcome) → c ≡ get_or cells i c → i < length cells →
+    outcomes_text start (map outcome_of (drop i cells)) ≡ outcome_text start (outcome_of c) ++ outcomes_text start (map outcome_of (drop (i + 1) cells))
+outcomes_more start i cells c is lt =
+    ap (λ cs. outcomes_text start (map outcome_of cs)) (drop_more cells i c lt)
+    ∙ ap (λ d. outcome_text start (outcome_of d) ++ outcomes_text start (map outcome_of (drop (i + 1) cells))) (sym is)
 
 -- all pages, over a fresh table
 pub data_all : (f : File) (t : Table) → t ≡ fresh f.pages 6 → data_text f ≡ pages_data f (f.pages - 0) 1 (unused t)

@@ -5,7 +5,7 @@ use Rattle.page_access.specs.Pages.{File}
 use Rattle.page_walk.specs.Cells.{outcomes_on}
 use Rattle.page_walk.specs.Pointers.{pointers_on}
 use Rattle.page_walk.specs.Turns.{left_by}
-use Rattle.dbdata_list.specs.Text.{outcomes_text, pointer_lines}
+use Rattle.dbdata_list.specs.Text.{outcomes_text, page_text, pointer_lines}
 
 -- the lines of n pages from page p on
 abbrev pub pages_text : (ℕ → List ℕ) → ℕ → ℕ → List ℕ
@@ -22,7 +22,7 @@ pointers_text f = pages_text (page_pointers f) f.pages 1
 
 -- the lines of the cells of page p, at their turns
 abbrev pub page_data : File → ℕ → List ℕ → List ℕ
-page_data f p unused = outcomes_text p (outcomes_on f p unused)
+page_data f p unused = outcomes_text (page_text p) (outcomes_on f p unused)
 
 -- the lines of the cells of n pages from page p on: overflow chains alone use pages, and each is listed
 -- all the same

@@ -7,12 +7,13 @@ ghost use Rattle.page_lists.specs.Table.{unused};
 ghost use Rattle.page_walk.specs.Cells.{outcome_of};
 ghost use Rattle.page_walk.specs.Turns.{ReadsEach, left_by};
 ghost use Rattle.dbdata_list.specs.Listing.{data_text, page_data};
-ghost use Rattle.dbdata_list.specs.Text.{outcome_text, outcomes_text};
+ghost use Rattle.dbdata_list.specs.Text.{outcome_text, outcomes_text, page_text};
+ghost use Rattle.arrayvec.specs.ArrayVec.{array_vec_len};
 
 use crate::faults::ListFault;
-use crate::lines::{put_row, put_unread};
+use crate::lines::{page_start, put_row, put_unread};
 use cell_reader::Accepted;
-use line_text::cause_word;
+use line_text::{Line, cause_word};
 use page_access::{Failed, Geometry, PageCache, Sink, Source};
 use page_lists::PageTable;
 use page_walk::{CellOutcome, LISTS, cells_with};
@@ -105,29 +106,38 @@ fn list_cells<S: Source, R: Sink>(
 // Puts the lines of the cells of a page.
 fn put_cells<R: Sink>(to: &mut R, page: u32, cells: &[CellOutcome]) -> Result<(), Failed>
     ensures writes { Writes (R.bytes to.old) (R.bytes to.new) (R.faults to.old) (R.faults to.new)
-        (outcomes_text page (map outcome_of cells.now)) result }
+        (outcomes_text (page_text page) (map outcome_of cells.now)) result }
+    ensures kept { KeepsSink R.created R.finished R.faults to.old to.new }
+{
+    let mut line = page_start(page);
+    put_each(to, &mut line, cells)
+}
+
+// Puts the lines of cells, each behind the beginning of the lines of their page, which the line holds.
+fn put_each<R: Sink>(to: &mut R, line: &mut Line, cells: &[CellOutcome]) -> Result<(), Failed>
+    requires { array_vec_len line.old ≤ 21 }
+    ensures writes { Writes (R.bytes to.old) (R.bytes to.new) (R.faults to.old) (R.faults to.new)
+        (outcomes_text line.old.items (map outcome_of cells.now)) result }
     ensures kept { KeepsSink R.created R.finished R.faults to.old to.new }
 {
     for cell in cells {
-        put_cell(to, page, cell)?;
+        put_cell(to, line, cell)?;
     }
     Ok(())
 }
 
 // Puts the lines of a cell.
-fn put_cell<R: Sink>(to: &mut R, page: u32, cell: &CellOutcome) -> Result<(), Failed>
+fn put_cell<R: Sink>(to: &mut R, line: &mut Line, cell: &CellOutcome) -> Result<(), Failed>
+    requires { array_vec_len line.old ≤ 21 }
     ensures writes { Writes (R.bytes to.old) (R.bytes to.new) (R.faults to.old) (R.faults to.new)
-        (outcome_text page (outcome_of cell.now)) result }
+        (outcome_text line.old.items (outcome_of cell.now)) result }
     ensures kept { KeepsSink R.created R.finished R.faults to.old to.new }
+    ensures line { OnOk result (line.new.items ≡ line.old.items) }
 {
     match cell {
-        CellOutcome::Taken(taken) => put_row(
-            to,
-            page,
-            taken.place.cell,
-            taken.rowid,
-            &taken.fields,
-        ),
-        CellOutcome::Unread { cell, cause, .. } => put_unread(to, page, *cell, cause_word(*cause)),
+        CellOutcome::Taken(taken) => {
+            put_row(to, line, taken.place.cell, taken.rowid, &taken.fields)
+        }
+        CellOutcome::Unread { cell, cause, .. } => put_unread(to, line, *cell, cause_word(*cause)),
     }
 }

@@ -1,41 +1,61 @@
 //! The lines of a cell.
-ghost use Rattle.std.specs.Prelude.{◌≡◌, ◌≤◌, ◌<◌, ◌+◌, ◌++◌, ℤ, pos, negsuc, length, take, codes, decimal};
+ghost use Rattle.std.specs.Prelude.{◌≡◌, ◌≤◌, ◌<◌, ◌+◌, ◌++◌, ℤ, pos, negsuc, length, take, codes, decimal, OnOk};
 ghost use Rattle.std.specs.Fmt.{signed_decimal};
 ghost use Rattle.arrayvec.specs.ArrayVec.{array_vec_len};
 ghost use Rattle.hex.specs.Hex.{encode_lower};
 ghost use Rattle.page_access.specs.Outside.{Writes, KeepsSink};
 ghost use Rattle.record_core.specs.declared.values.Value.TheVariants.{Null, Whole};
-ghost use Rattle.line_text.specs.Text.{newline, place_text};
-ghost use Rattle.dbdata_list.specs.Text.{field_line, field_text, fields_text, pointer_line, row_text, rowid_text, unread_line, word_line};
+ghost use Rattle.line_text.specs.Text.{newline};
+ghost use Rattle.dbdata_list.specs.Text.{cell_text, page_text, field_line, field_text, fields_text, pointer_line, row_text, rowid_text, unread_line, word_line};
 
 use itoa::Buffer;
-use line_text::{Line, add, place, put_hex};
+use line_text::{Line, add, put_hex};
 use page_access::{Failed, Sink};
 use record_core::Value;
 
-/// Puts the lines of a row: its rowid, then its fields.
+/// The beginning of the lines of a page.
+pub(crate) fn page_start(page: u32) -> Line
+    ensures text { result.items ≡ page_text page }
+    ensures len { array_vec_len result ≤ 21 }
+{
+    let mut line = Line::new();
+    add(&mut line, Buffer::new().format(page).as_bytes());
+    add(&mut line, b" ");
+    line
+}
+
+/// Puts the lines of a row: its rowid, then its fields. The line begins with the number of the page when this is
+/// called, and is that again where it returns without an error.
 pub(crate) fn put_row<R: Sink>(
     to: &mut R,
-    page: u32,
+    line: &mut Line,
     cell: u32,
     rowid: Option<i64>,
     values: &[Value],
 ) -> Result<(), Failed>
+    requires { array_vec_len line.old ≤ 21 }
     ensures writes { Writes (R.bytes to.old) (R.bytes to.new) (R.faults to.old) (R.faults to.new)
-        (row_text page cell rowid values.now) result }
+        (row_text line.old.items cell rowid values.now) result }
     ensures kept { KeepsSink R.created R.finished R.faults to.old to.new }
+    ensures line { OnOk result (line.new.items ≡ line.old.items) }
 {
-    let mut line = cell_place(page, cell);
-    put_rowid(to, &mut line, rowid)?;
-    put_fields(to, &mut line, values)
+    let start = line.len();
+    add_cell(line, cell);
+    put_rowid(to, line, rowid)?;
+    put_fields(to, line, values)?;
+    line.truncate(start);
+    Ok(())
 }
 
-// The place of a cell, which begins each of its lines.
-fn cell_place(page: u32, cell: u32) -> Line
-    ensures text { result.items ≡ place_text page cell }
-    ensures len { array_vec_len result ≤ 42 }
+// Appends the number of a cell.
+#[tactic(auto, unfolding(crate::specs::Text::cell_text))]
+fn add_cell(line: &mut Line, cell: u32)
+    requires { array_vec_len line.old ≤ 21 }
+    ensures text { line.new.items ≡ cell_text line.old.items cell }
+    ensures len { array_vec_len line.new ≤ 42 }
 {
-    place(u64::from(page), u64::from(cell))
+    add(line, Buffer::new().format(cell).as_bytes());
+    add(line, b" ");
 }
 
 // Each of the next functions puts lines behind the place of a cell, which a line holds when it is called and again
@@ -61,6 +81,7 @@ fn put_fields<R: Sink>(to: &mut R, line: &mut Line, values: &[Value]) -> Result<
     ensures writes { Writes (R.bytes to.old) (R.bytes to.new) (R.faults to.old) (R.faults to.new)
         (fields_text line.old.items 0 values.now) result }
     ensures kept { KeepsSink R.created R.finished R.faults to.old to.new }
+    ensures line { OnOk result (line.new.items ≡ line.old.items) }
 {
     for (field, value) in values.iter().enumerate() {
         put_numbered(to, line, field, value)?;
@@ -228,24 +249,28 @@ fn add_head(line: &mut Line, field: &[u8], name: &[u8])
     add(line, name);
 }
 
-/// Puts the line of a cell that is not read.
-#[tactic(auto, unfolding(crate::specs::Text::unread_line))]
+/// Puts the line of a cell that is not read. The line begins with the number of the page when this is called, and is
+/// that again when it returns.
+#[tactic(auto, unfolding(crate::specs::Text::unread_line, crate::specs::Text::cell_text))]
 pub(crate) fn put_unread<R: Sink>(
     to: &mut R,
-    page: u32,
+    line: &mut Line,
     cell: u32,
     cause: &str,
 ) -> Result<(), Failed>
-    requires { length cause.now ≤ 32 }
+    requires line { array_vec_len line.old ≤ 21 }
+    requires cause { length cause.now ≤ 32 }
     ensures writes { Writes (R.bytes to.old) (R.bytes to.new) (R.faults to.old) (R.faults to.new)
-        (unread_line page cell cause.now) result }
+        (unread_line line.old.items cell cause.now) result }
     ensures kept { KeepsSink R.created R.finished R.faults to.old to.new }
+    ensures line { line.new.items ≡ line.old.items }
 {
-    let mut line = cell_place(page, cell);
-    add(&mut line, b"unread ");
-    add(&mut line, cause.as_bytes());
-    add(&mut line, b"\n");
-    to.put(line.as_slice())
+    let start = line.len();
+    add_cell(line, cell);
+    add(line, b"unread ");
+    add(line, cause.as_bytes());
+    add(line, b"\n");
+    put_line(to, line, start)
 }
 
 /// Puts the line of a page number that a page names.

@@ -135,7 +135,13 @@ fn a_chosen_size_takes_the_reserved_bytes_of_a_header_that_names_it(
 #[test]
 fn a_file_shorter_than_a_page_has_no_whole_page(rt: HostRuntime) -> Result<(), Fail> {
     let table = [
-        (600, Err(GeoFault::NoWholePage { len: 600, size: 4096 })),
+        (
+            600,
+            Err(GeoFault::NoWholePage {
+                len: 600,
+                size: 4096,
+            }),
+        ),
         (4096, Ok((4096, 4096, 1, Origin::Header))),
     ];
     for (len, wanted) in table {
@@ -149,7 +155,13 @@ fn a_file_shorter_than_a_page_has_no_whole_page(rt: HostRuntime) -> Result<(), F
 fn a_header_alone_has_no_page(rt: HostRuntime) -> Result<(), Fail> {
     let table = [
         ([0, 0], GeoFault::NoPageSize),
-        ([2, 0], GeoFault::NoWholePage { len: 100, size: 512 }),
+        (
+            [2, 0],
+            GeoFault::NoWholePage {
+                len: 100,
+                size: 512,
+            },
+        ),
     ];
     for (size, wanted) in table {
         let found = parts_by_header(&rt, rt.alloc(), 100, (&size, 0), None, None)?;

@@ -13,9 +13,7 @@ fn place(rt: &impl Abort, bytes: &mut Vec<u8>, at: usize, piece: &[u8]) {
 }
 
 // The page size, the usable bytes, the number of pages and the origin.
-type Parts = Result<(u32, u32, u32, Origin), GeoFault>;
-
-fn parts(found: Result<Found, GeoFault>) -> Parts {
+fn parts(found: Result<Found, GeoFault>) -> Result<(u32, u32, u32, Origin), GeoFault> {
     let found = found?;
     let geometry = found.geometry;
     Ok((
@@ -26,21 +24,18 @@ fn parts(found: Result<Found, GeoFault>) -> Parts {
     ))
 }
 
-// What is found in so many bytes, zeros but for the page size and the reserved bytes of their header.
-fn parts_by_header(
+// So many bytes with a header of this page size and these reserved bytes.
+fn with_header(
     rt: &impl Abort,
     alloc: Global,
     len: usize,
-    header: (&[u8; 2], u8),
-    page_size: Option<u32>,
-    reserved: Option<u8>,
-) -> Result<Parts, Fail> {
+    size: &[u8],
+    reserved: u8,
+) -> Result<SureSource, Fail> {
     let mut bytes = zeros(alloc, len)?;
-    place(rt, &mut bytes, 16, header.0);
-    place(rt, &mut bytes, 20, &[header.1]);
-    let mut src = SureSource::new(bytes);
-    let found = find_geometry(alloc, &mut src, len as u64, page_size, reserved);
-    Ok(parts(found))
+    place(rt, &mut bytes, 16, size);
+    place(rt, &mut bytes, 20, &[reserved]);
+    Ok(SureSource::new(bytes))
 }
 
 #[test]
@@ -96,23 +91,24 @@ fn a_tie_goes_to_the_smaller_size(rt: HostRuntime) -> Result<(), Fail> {
 
 #[test]
 fn a_header_names_the_largest_size_by_one(rt: HostRuntime) -> Result<(), Fail> {
-    let found = parts_by_header(&rt, rt.alloc(), 65600, (&[0, 1], 0), None, None)?;
+    let alloc = rt.alloc();
+    let mut src = with_header(&rt, alloc, 65600, &[0, 1], 0)?;
+    let found = parts(find_geometry(alloc, &mut src, 65600, None, None));
     assert_eq!(rt; found, Ok((65536, 65536, 1, Origin::Header)));
     Ok(())
 }
 
 #[test]
 fn a_header_leaves_480_usable_bytes(rt: HostRuntime) -> Result<(), Fail> {
-    let table = [
-        (32, None, Ok((512, 480, 2, Origin::Header))),
-        (33, None, Err(GeoFault::NoPageSize)),
-        (33, Some(4), Ok((512, 508, 2, Origin::Header))),
-    ];
-    for (in_header, reserved, wanted) in table {
-        let header = (&[2, 0], in_header);
-        let found = parts_by_header(&rt, rt.alloc(), 1024, header, None, reserved)?;
-        assert_eq!(rt; found, wanted);
-    }
+    let alloc = rt.alloc();
+    let mut src = with_header(&rt, alloc, 1024, &[2, 0], 32)?;
+    let found = parts(find_geometry(alloc, &mut src, 1024, None, None));
+    assert_eq!(rt; found, Ok((512, 480, 2, Origin::Header)));
+    let mut src = with_header(&rt, alloc, 1024, &[2, 0], 33)?;
+    let found = parts(find_geometry(alloc, &mut src, 1024, None, None));
+    assert_eq!(rt; found, Err(GeoFault::NoPageSize));
+    let found = parts(find_geometry(alloc, &mut src, 1024, None, Some(4)));
+    assert_eq!(rt; found, Ok((512, 508, 2, Origin::Header)));
     Ok(())
 }
 
@@ -120,53 +116,46 @@ fn a_header_leaves_480_usable_bytes(rt: HostRuntime) -> Result<(), Fail> {
 fn a_chosen_size_takes_the_reserved_bytes_of_a_header_that_names_it(
     rt: HostRuntime,
 ) -> Result<(), Fail> {
-    let table = [
-        (1024, None, (1024, 1016, 2, Origin::Chosen)),
-        (2048, None, (2048, 2048, 1, Origin::Chosen)),
-        (512, Some(16), (512, 496, 4, Origin::Chosen)),
-    ];
-    for (size, reserved, wanted) in table {
-        let found = parts_by_header(&rt, rt.alloc(), 2048, (&[4, 0], 8), Some(size), reserved)?;
-        assert_eq!(rt; found, Ok(wanted));
-    }
+    let alloc = rt.alloc();
+    let mut src = with_header(&rt, alloc, 2048, &[4, 0], 8)?;
+    let found = parts(find_geometry(alloc, &mut src, 2048, Some(1024), None));
+    assert_eq!(rt; found, Ok((1024, 1016, 2, Origin::Chosen)));
+    let found = parts(find_geometry(alloc, &mut src, 2048, Some(2048), None));
+    assert_eq!(rt; found, Ok((2048, 2048, 1, Origin::Chosen)));
+    let found = parts(find_geometry(alloc, &mut src, 2048, Some(512), Some(16)));
+    assert_eq!(rt; found, Ok((512, 496, 4, Origin::Chosen)));
     Ok(())
 }
 
 #[test]
 fn a_file_shorter_than_a_page_has_no_whole_page(rt: HostRuntime) -> Result<(), Fail> {
-    let table = [
-        (
-            600,
-            Err(GeoFault::NoWholePage {
-                len: 600,
-                size: 4096,
-            }),
-        ),
-        (4096, Ok((4096, 4096, 1, Origin::Header))),
-    ];
-    for (len, wanted) in table {
-        let found = parts_by_header(&rt, rt.alloc(), len, (&[16, 0], 0), None, None)?;
-        assert_eq!(rt; found, wanted);
-    }
+    let alloc = rt.alloc();
+    let mut src = with_header(&rt, alloc, 600, &[16, 0], 0)?;
+    let found = parts(find_geometry(alloc, &mut src, 600, None, None));
+    let fault = GeoFault::NoWholePage {
+        len: 600,
+        size: 4096,
+    };
+    assert_eq!(rt; found, Err(fault));
+    let mut src = with_header(&rt, alloc, 4096, &[16, 0], 0)?;
+    let found = parts(find_geometry(alloc, &mut src, 4096, None, None));
+    assert_eq!(rt; found, Ok((4096, 4096, 1, Origin::Header)));
     Ok(())
 }
 
 #[test]
 fn a_header_alone_has_no_page(rt: HostRuntime) -> Result<(), Fail> {
-    let table = [
-        ([0, 0], GeoFault::NoPageSize),
-        (
-            [2, 0],
-            GeoFault::NoWholePage {
-                len: 100,
-                size: 512,
-            },
-        ),
-    ];
-    for (size, wanted) in table {
-        let found = parts_by_header(&rt, rt.alloc(), 100, (&size, 0), None, None)?;
-        assert_eq!(rt; found, Err(wanted));
-    }
+    let alloc = rt.alloc();
+    let mut src = SureSource::new(zeros(alloc, 100)?);
+    let found = parts(find_geometry(alloc, &mut src, 100, None, None));
+    assert_eq!(rt; found, Err(GeoFault::NoPageSize));
+    let mut src = with_header(&rt, alloc, 100, &[2, 0], 0)?;
+    let found = parts(find_geometry(alloc, &mut src, 100, None, None));
+    let fault = GeoFault::NoWholePage {
+        len: 100,
+        size: 512,
+    };
+    assert_eq!(rt; found, Err(fault));
     Ok(())
 }
 

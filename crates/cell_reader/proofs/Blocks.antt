@@ -1,5 +1,5 @@
 -- Blocks of marks: what a block without a mark says, and what a range leaves of it.
-use Rattle.std.proofs.Common.{◌≡◌, ◌<◌, ◌≤◌, ◌⊎◌, inl, inr, ℕ, ◌+◌, ◌-◌, ◌*◌, ◌/◌, Bool, true, false, not, ◌&&◌, ◌||◌, List, length, get_or, nat_le, nat_lt, refl, sym, subst, ◌∙◌, ap, arith}
+use Rattle.std.proofs.Common.{◌≡◌, ◌<◌, ◌≤◌, ◌⊎◌, inl, inr, ℕ, ◌+◌, ◌-◌, ◌*◌, ◌/◌, Bool, true, false, not, ◌&&◌, ◌||◌, List, length, get_or, min, nat_le, nat_lt, refl, sym, subst, ◌∙◌, ap, arith}
 use Rattle.std.specs.List.{list_all, slice_range}
 use Rattle.std.proofs.lemmas.Bool.{cases_Bool, or_from, or_parts, true≢false}
 use Rattle.std.proofs.lemmas.Bool.Decides.{nat_tests}
@@ -62,3 +62,10 @@ blocked_more marks blocks s e b lt le =
           absurd (true≢false (sym (both (nat_le (s / 256) (k / 256)) (nat_lt (k / 256) ((e - 1) / 256 + 1)) p q) ∙ h))
       | inr miss ↦ miss
     ]
+
+-- no mark below a range that was set, and below a place below which none was set, is set
+pub below_more : (marks : List Bool) (s e low : ℕ) → s < e → e ≤ length marks → ((k : ℕ) → k < low → get_or marks k false ≡ false)
+    → (k : ℕ) → k < min low s → get_or (with_range marks s e) k false ≡ false
+below_more marks s e low lt le h k small =
+    let before : nat_le s k ≡ false = grind (arith, nat_tests) in
+    set_mark marks s e k lt le ∙ rw before (h k (omega arith))

@@ -18,6 +18,11 @@ pub record IsBlocked (marks blocks : List Bool) : Type 0 where
   pub many : length blocks ≡ length marks / 256 + 1
   pub clear : (k : ℕ) → slice_index_or blocks (k / 256) false ≡ false → slice_index_or marks k false ≡ false
 
+-- these marks, their blocks, and a place below which no mark is set
+pub record IsMarked (marks blocks : List Bool) (low : ℕ) : Type 0 where
+  pub blocked : IsBlocked marks blocks
+  pub below : (k : ℕ) → k < low → slice_index_or marks k false ≡ false
+
 -- byte k of the page stands in the cell
 abbrev pub covers : ℕ → CellView → Bool
 covers k v = nat_le v.start k && nat_lt k v.end

@@ -1,7 +1,7 @@
 //! Which bytes of a page stand in accepted cells.
 ghost use Rattle.std.specs.Prelude.{◌≡◌, ◌≤◌, ◌<◌, Bool, List, IfOk, false, if◌then◌else◌, length, not, replicate};
 ghost use Rattle.std.specs.List.{list_all};
-ghost use Rattle.cell_reader.specs.Cover.{IsBlocked, is_free, with_range};
+ghost use Rattle.cell_reader.specs.Cover.{IsMarked, is_free, with_range};
 
 use std::alloc::{AllocError, Global};
 use std::marker::Model;
@@ -17,6 +17,9 @@ pub struct Accepted {
     // Whether a block of marks may have one that is set. A block in which none is set is passed over
     // at once, so that no range costs much more than its length in blocks.
     blocks: Vec<bool>,
+    // No mark below this one is set. The cells of most pages are laid from the end of the page down, so that
+    // each stands below all before it.
+    low: usize,
 }
 
 impl Model for Accepted {
@@ -24,7 +27,7 @@ impl Model for Accepted {
 
     ghost view = { λ s. s.marks.items };
 
-    ghost invariant = { λ s. IsBlocked s.marks.items s.blocks.items };
+    ghost invariant = { λ s. IsMarked s.marks.items s.blocks.items s.low };
 }
 
 impl Accepted {
@@ -35,6 +38,7 @@ impl Accepted {
         Ok(Accepted {
             marks: vec![in alloc; false; usable as usize]?,
             blocks: vec![in alloc; false; usable as usize / BLOCK + 1]?,
+            low: usable as usize,
         })
     }
 
@@ -44,6 +48,7 @@ impl Accepted {
     {
         self.marks.as_mut_slice().fill(false);
         self.blocks.as_mut_slice().fill(false);
+        self.low = self.marks.len();
     }
 
     /// Holds the range from `start` to before `end` where it shares no byte with a held range, and
@@ -67,6 +72,9 @@ impl Accepted {
         requires within { end ≤ length self.now }
         ensures { result ≡ is_free self.now start end }
     {
+        if end <= self.low {
+            return true;
+        }
         let mut at = start;
         while at < end {
             let block = at / BLOCK;
@@ -91,6 +99,7 @@ impl Accepted {
             start / BLOCK,
             (end - 1) / BLOCK + 1,
         );
+        self.low = self.low.min(start);
     }
 }
 

@@ -2,6 +2,7 @@
 
 ghost use Rattle.std.specs.Prelude.{◌≡◌, ◌≤◌, ◌==◌, ℕ, List, length, IfOk, IfErr, IsOk, IsErrOf, IsSomeAnd, ◌⊎◌, if◌then◌else◌};
 ghost use Rattle.std.specs.Prelude.{Some};
+ghost use Rattle.byteorder.specs.Endian.{big_number, twos_complement};
 ghost use Rattle.record_core.specs.Record.{body_len, bodies_len, types_in, value_of, values_of, record_of, Gives};
 ghost use Rattle.record_core.specs.Faults.{IsCause};
 ghost use Rattle.record_core.specs.Spelling.{IsRecord};
@@ -106,12 +107,30 @@ fn value_at(alloc: Global, kind: u64, body: &[u8]) -> Result<Value, AllocError>
 {
     Ok(match kind {
         0 => Value::Null,
-        1..=6 => Value::Whole(BigEndian::read_int(body, body.len())),
+        1..=6 => Value::Whole(whole(body)),
         7 => Value::Real8(eight(body)),
         8 => Value::Whole(0),
         9 => Value::Whole(1),
         _ => text_or_blob(kind, Vec::from_slice(alloc, body)?),
     })
+}
+
+// The whole number that up to eight bytes stand for in two's complement. Each length that a serial type has is
+// named, so that each is read by code of its own.
+fn whole(body: &[u8]) -> i64
+    requires some { 1 ≤ length body.now }
+    requires few { length body.now ≤ 8 }
+    ensures { result ≡ twos_complement (length body.now) (big_number (length body.now) body.now) }
+{
+    match body.len() {
+        1 => BigEndian::read_int(body, 1),
+        2 => BigEndian::read_int(body, 2),
+        3 => BigEndian::read_int(body, 3),
+        4 => BigEndian::read_int(body, 4),
+        6 => BigEndian::read_int(body, 6),
+        8 => BigEndian::read_int(body, 8),
+        len => BigEndian::read_int(body, len),
+    }
 }
 
 // The text or the blob of these bytes, as the serial type says. Takes no memory.

@@ -28,9 +28,21 @@ pub fn no_spelling_begins_another()
     ensures { (s rest : List ℕ) (v w : ℕ) → IsVarint s v → IsVarint (s ++ rest) w → rest ≡ [] }
 {}
 
-// The varint that begins the bytes.
+// The varint that begins the bytes. Most have one byte.
 #[tactic(auto, unfolding(crate::specs::Varint::varint_at))]
 fn varint_of(bytes: &[u8]) -> Option<(u64, usize)>
+    ensures exact { result ≡ varint_at bytes.now }
+    ensures there { IfSome result (λ v. (1 ≤ v.1) × (v.1 ≤ 9) × (v.1 ≤ length bytes.now)) }
+{
+    match bytes {
+        [byte, ..] if *byte < 128 => Some((u64::from(*byte), 1)),
+        _ => long_varint(bytes),
+    }
+}
+
+// The same, byte by byte.
+#[tactic(auto, unfolding(crate::specs::Varint::varint_at))]
+fn long_varint(bytes: &[u8]) -> Option<(u64, usize)>
     ensures exact { result ≡ varint_at bytes.now }
     ensures there { IfSome result (λ v. (1 ≤ v.1) × (v.1 ≤ 9) × (v.1 ≤ length bytes.now)) }
 {

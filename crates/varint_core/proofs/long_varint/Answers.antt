@@ -1,6 +1,6 @@
 use Rattle.std.proofs.Common.{rules, ◌<◌}
 use Rattle.varint_core.proofs.Bounds.{high_fits}
-use Rattle.varint_core.proofs.varint_of.Goals as goal
+use Rattle.varint_core.proofs.long_varint.Goals as goal
 
 pub overflow_add-result-then-byte-lt128 : goal.overflow_add-result-then-byte-lt128
 overflow_add-result-then-byte-lt128 c =

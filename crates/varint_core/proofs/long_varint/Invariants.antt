@@ -1,6 +1,6 @@
 use Rattle.std.proofs.Common.{◌≡◌, ◌<◌, ◌≤◌, ◌^◌, drop}
 use Rattle.varint_core.specs.Varint.{varint_from}
-use Rattle.varint_core.proofs.varint_of.Given as goal
+use Rattle.varint_core.proofs.long_varint.Given as goal
 
 -- the bytes read so far and the rest give what all bytes give
 abbrev pub invariant-loop-k : goal.invariant-loop-k

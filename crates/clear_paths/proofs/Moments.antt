@@ -6,6 +6,7 @@ use Rattle.page_access.specs.Pages.{File}
 use Rattle.page_lists.specs.Lists.{IsPartOf, count, is_in, minus}
 use Rattle.page_lists.specs.Table.{is_page}
 use Rattle.page_lists.proofs.Counts.{count-append, count-minus, count_in, in_from_count, minus-append}
+use Rattle.page_lists.proofs.Moves.{count_pages}
 use Rattle.cell_reader.specs.declared.shapes.Kind.{Kind}
 use Rattle.page_walk.specs.Evidence.{AreOnce}
 use Rattle.page_walk.specs.Pointers.{pointers_on}
@@ -15,7 +16,7 @@ use Rattle.page_walk.proofs.Chains.{chains_are_unused, walks_are_unused}
 use Rattle.page_walk.proofs.Levels.{in_back, in_front, names_of_level}
 use Rattle.tree_uses.specs.Trees.{pages_in, tree_for, walk_for, walks}
 use Rattle.tree_uses.specs.declared.walks.WantedTree.{WantedTree}
-use Rattle.orphan_trees.proofs.Lists.{count_pages, once_left}
+use Rattle.orphan_trees.proofs.Lists.{once_left}
 use Rattle.clear_paths.specs.Clear.{Touched, all_pages, named, next_on, outer_numbers, overflows_on, root_number}
 use Rattle.clear_paths.proofs.Measures.{times, times-append}
 use Rattle.clear_paths.proofs.Naming.{AreAsked, pages_asked, walk_named, walk_touched}

@@ -8,7 +8,7 @@ use Rattle.std.proofs.lemmas.List.Elements.{Contains-append_left, Contains-appen
 use Rattle.page_access.specs.Pages.{File}
 use Rattle.page_lists.specs.Lists.{IsPartOf, count, is_in, minus}
 use Rattle.page_lists.specs.Table.{is_page}
-use Rattle.page_lists.proofs.Counts.{count-append, count_in, in_from_count, in_head, in_or_not, part_none}
+use Rattle.page_lists.proofs.Counts.{at_most_one, count-append, count_in, in_from_count, in_head, in_or_not, part_none}
 use Rattle.cell_reader.specs.declared.cells.CellView.{CellView}
 use Rattle.cell_reader.specs.Screen.{Verdict, Accepts}
 use Rattle.overflow_chain.specs.Chain.{Linked, next_page}
@@ -21,7 +21,6 @@ use Rattle.page_walk.specs.Turns.{left_by, turns_on}
 use Rattle.page_walk.proofs.Chains.{page_part}
 use Rattle.page_walk.proofs.Readable.{readable_are_read}
 use Rattle.raw_schema.specs.Schema.{cells_in}
-use Rattle.orphan_trees.proofs.Lists.{at_most_one}
 use Rattle.clear_paths.specs.Clear.{IsClear, Touched, all_pages, named, next_on, overflow_by, overflows_on, touched}
 use Rattle.clear_paths.proofs.Measures.{times}
 use Rattle.clear_paths.proofs.Moments.{Moment, Takes, Used, asked_take, chain_used, moment_once, more_used, overflow_touched, takes_more}

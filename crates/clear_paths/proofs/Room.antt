@@ -5,10 +5,10 @@ use Rattle.std.proofs.lemmas.Bool.Decides.{eqb_tells}
 use Rattle.page_access.specs.Pages.{File}
 use Rattle.page_lists.specs.Lists.{IsPartOf, count, is_in}
 use Rattle.page_lists.specs.Table.{is_page}
-use Rattle.page_lists.proofs.Counts.{count-append, count_in, in_from_count, in_or_not}
+use Rattle.page_lists.proofs.Counts.{at_most_one, count-append, count_in, in_from_count, in_or_not}
+use Rattle.page_lists.proofs.Moves.{count_pages}
 use Rattle.overflow_chain.specs.Chain.{next_page}
 use Rattle.page_walk.specs.Pointers.{pointers_on}
-use Rattle.orphan_trees.proofs.Lists.{at_most_one, count_pages}
 use Rattle.clear_paths.specs.Clear.{IsClear, Touched, all_pages, counted, next_on, numbers_on, outer_numbers, overflows_on, touched}
 use Rattle.clear_paths.proofs.Measures.{times, times-append, times_part, times_split}
 use Rattle.clear_paths.proofs.Moments.{Moment, Used, times_named}

@@ -6,8 +6,9 @@ use Rattle.std.proofs.lemmas.List.FromFn.{length-range_with_len}
 use Rattle.page_access.specs.Pages.{File}
 use Rattle.page_lists.specs.Lists.{IsPartOf, count, firsts, is_in, minus}
 use Rattle.page_lists.specs.Table.{fresh, is_page}
-use Rattle.page_lists.proofs.Counts.{count-append, count-firsts, count_in, firsts_part, in_from_count, in_or_not, in_part, length-minus}
-use Rattle.orphan_trees.proofs.Lists.{at_most_one, count_pages, page_of_unused}
+use Rattle.page_lists.proofs.Counts.{at_most_one, count-append, count-firsts, count_in, firsts_part, in_from_count, in_or_not, in_part, length-minus}
+use Rattle.page_lists.proofs.Moves.{count_pages}
+use Rattle.orphan_trees.proofs.Lists.{page_of_unused}
 use Rattle.page_walk.proofs.Levels.{firsts_in, in_firsts, levels_closed, levels_first, levels_once, levels_within, taken_or_left}
 use Rattle.page_walk.specs.Evidence.{AreOnce}
 use Rattle.page_walk.proofs.Queue.{Fuel}

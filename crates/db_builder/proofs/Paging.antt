@@ -4,13 +4,12 @@ use Rattle.std.proofs.lemmas.List.Sums.{sum_by-cons}
 use Rattle.cell_reader.specs.declared.shapes.Kind.{Kind}
 use Rattle.cell_reader.specs.declared.shapes.Kind.TheVariants.{Table}
 use Rattle.tree_writer.specs.declared.plans.TreePlan.{TreePlan}
-use Rattle.tree_writer.specs.Cells.{chain_pages, chains_from, item_overs, overs, width_of}
-use Rattle.tree_writer.specs.Entry.{Entry, Item}
+use Rattle.tree_writer.specs.Cells.{chains_from, width_of}
+use Rattle.tree_writer.specs.Entry.{Entry}
 use Rattle.tree_writer.specs.Layout.{pages_from, schema_pages, sheet_pages, tree_pages}
 use Rattle.tree_writer.specs.Levels.{Sheet, pages_in, schema_sheets, schema_top, tree_sheets}
 use Rattle.tree_writer.specs.Trees.{IsSchemaPlan, IsTreePlan}
-use Rattle.tree_writer.proofs.Chaining.{length-chain}
-use Rattle.tree_writer.proofs.Writing.{length-sheet}
+use Rattle.tree_writer.proofs.Writing.{length-chains, length-sheet}
 use Rattle.db_builder.specs.Layout.{gap, paged}
 use Rattle.db_builder.specs.Written.{ArePages, OfSchema, OfTree}
 
@@ -23,17 +22,6 @@ length-pages usable kind number k (s ∷ ss) =
       length-sheet usable kind number k s,
       length-pages usable kind number (k + width_of usable kind s.items) ss,
       sum_by-cons (λ (s : Sheet). width_of usable kind s.items) s ss,
-    )
-
-length-chains : (usable : ℕ) (kind : Kind) (number : ℕ → ℕ) (k : ℕ) (items : List Item) → length (chains_from usable kind number k items) ≡ overs usable kind items
-length-chains usable kind number k [] = refl
-length-chains usable kind number k (x ∷ xs) =
-    omega (
-      arith,
-      length-append (chain_pages usable kind number k x.entry) (chains_from usable kind number (k + item_overs usable kind x) xs),
-      length-chain usable kind number k x.entry,
-      length-chains usable kind number (k + item_overs usable kind x) xs,
-      sum_by-cons (item_overs usable kind) x xs,
     )
 
 -- how many pages there are

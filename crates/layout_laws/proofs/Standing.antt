@@ -6,17 +6,15 @@ use Rattle.std.proofs.lemmas.Bool.{cases_lt}
 use Rattle.std.proofs.lemmas.List.{length-append}
 use Rattle.std.proofs.lemmas.List.Sums.{sum_by-cons}
 use Rattle.page_access.specs.Pages.{File, is_page_size, page_at}
-use Rattle.cell_reader.specs.declared.shapes.Kind.{Kind}
 use Rattle.cell_reader.specs.declared.shapes.Kind.TheVariants.{Table}
-use Rattle.tree_writer.specs.Cells.{chain_pages, chains_from, item_overs, overs}
-use Rattle.tree_writer.specs.Entry.{AreEntries, Entry, Item, RowidsRise}
+use Rattle.tree_writer.specs.Cells.{chains_from}
+use Rattle.tree_writer.specs.Entry.{AreEntries, Entry, RowidsRise}
 use Rattle.tree_writer.specs.Layout.{pages_from, tree_pages}
 use Rattle.tree_writer.specs.Levels.{pages_in, schema_sheets, schema_top, tree_sheets}
 use Rattle.tree_writer.specs.Numbers.{number_of}
 use Rattle.tree_writer.specs.Trees.{schema_count, tree_count}
-use Rattle.tree_writer.proofs.Chaining.{length-chain}
 use Rattle.tree_writer.proofs.Raising.{all_append}
-use Rattle.tree_writer.proofs.Writing.{length-pages}
+use Rattle.tree_writer.proofs.Writing.{length-chains, length-pages}
 use Rattle.written_trees.specs.Trees.{ArePageNumbers, CanHold, HasPagesAt, HasRowid, IsTreeOf, first_then, numbers}
 use Rattle.written_trees.proofs.Numbers.{Stand, stand_apart}
 use Rattle.written_trees.proofs.Serving.{numbers_serve}
@@ -108,17 +106,6 @@ schema_first size db = get_or (pages_of_schema size db) 0 []
 
 abbrev pub schema_rest : ℕ → OutDb → List (List ℕ)
 schema_rest size db = drop 1 (pages_of_schema size db)
-
-length-chains : (usable : ℕ) (kind : Kind) (number : ℕ → ℕ) (k : ℕ) (items : List Item) → length (chains_from usable kind number k items) ≡ overs usable kind items
-length-chains usable kind number k [] = refl
-length-chains usable kind number k (x ∷ xs) =
-    omega (
-      arith,
-      length-append (chain_pages usable kind number k x.entry) (chains_from usable kind number (k + item_overs usable kind x) xs),
-      length-chain usable kind number k x.entry,
-      length-chains usable kind number (k + item_overs usable kind x) xs,
-      sum_by-cons (item_overs usable kind) x xs,
-    )
 
 pub rest_len : (size : ℕ) (db : OutDb) → length (schema_rest size db) + 1 ≡ schema_count size (schema_entries size (trees_of db.tables.items))
 rest_len size db =

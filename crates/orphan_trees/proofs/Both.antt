@@ -5,22 +5,24 @@ use Rattle.std.specs.List.{range_with_len}
 use Rattle.std.proofs.lemmas.Bool.{cases_Bool}
 use Rattle.std.proofs.lemmas.Grind.{flat_map-append}
 use Rattle.std.proofs.lemmas.List.{take-append-drop}
+use Rattle.std.proofs.lemmas.Option.{IfSome_then}
 use Rattle.page_access.specs.Files.{IsWhole, file_of}
 use Rattle.page_access.specs.Pages.{File}
 use Rattle.page_access.specs.declared.geometry.Geometry.{Geometry}
+use Rattle.page_access.proofs.Told.{always_told, both_told}
 use Rattle.page_lists.specs.Lists.{IsPartOf, count, is_in, minus}
 use Rattle.page_lists.specs.Table.{IsPartition, MovesFront, Table, all_moved, is_page, unused}
-use Rattle.page_lists.proofs.Counts.{count-append, count_in, length-minus}
+use Rattle.page_lists.proofs.Counts.{at_most_one, count-append, count_in, length-minus}
 use Rattle.page_lists.proofs.Uses.{all_moved-append, unused-all_moved}
+use Rattle.page_lists.proofs.Moves.{count_pages}
 use Rattle.page_walk.specs.Evidence.{AreOnce}
 use Rattle.page_walk.specs.Turns.{ReadsEach}
 use Rattle.page_walk.proofs.Fronts.{then_front}
-use Rattle.page_walk.proofs.Going.{always_told, both_told, one_told}
 use Rattle.page_walk.proofs.Witness.{unused_once}
 use Rattle.tree_uses.proofs.Parts.{part_then}
 use Rattle.orphan_trees.specs.Orphans.{Orphan, ReadsOrphans, is_orphan, orphan_children, orphan_pages, orphan_trees, pages_in, tree_pages, trees_at}
 use Rattle.orphan_trees.specs.Passes.{found_in, unmarked, with_marks}
-use Rattle.orphan_trees.proofs.Lists.{at_most_one, count-filter, count_pages, filter-swap, page_of_unused}
+use Rattle.orphan_trees.proofs.Lists.{count-filter, filter-swap, page_of_unused}
 use Rattle.orphan_trees.proofs.Marking.{all_unmarked, unnamed_are}
 use Rattle.orphan_trees.proofs.Rule.{all_part, both_passes, found_pages, orphans_hold}
 use Rattle.orphan_trees.proofs.Sweeping.{front_none}
@@ -239,5 +241,7 @@ reads_told o o1 geo t t' i j k more e1 each same marks front walks =
 pub reads_marks : (o : Option (List ℕ)) (geo : Geometry) (u : List ℕ) (i j more : ℕ)
     → IfSome o (λ all. IsWhole all geo → j ≤ i + length (orphan_pages (file_of all geo) u)) → ReadsOrphans o geo u i j more
 reads_marks o geo u i j more read =
-    one_told (λ all. IsWhole all geo → j ≤ i + length (orphan_pages (file_of all geo) u))
-    (λ all. IsWhole all geo → j ≤ i + 2 * length (orphan_pages (file_of all geo) u) + more) o (λ all p whole. omega (arith, p whole)) read
+    IfSome_then o
+    {P = λ all. IsWhole all geo → j ≤ i + length (orphan_pages (file_of all geo) u)}
+    {Q = λ all. IsWhole all geo → j ≤ i + 2 * length (orphan_pages (file_of all geo) u) + more}
+    read (λ all p whole. omega (arith, p whole))

@@ -6,8 +6,7 @@ use Rattle.std.proofs.lemmas.Bool.{cases_Bool, false≢true}
 use Rattle.std.proofs.lemmas.Bool.Decides.{eqb_tells}
 use Rattle.page_lists.specs.Lists.{IsPartOf, count, is_in, minus}
 use Rattle.page_lists.specs.Table.{is_page}
-use Rattle.page_lists.proofs.Counts.{count_in, count_not_in, count-minus, in_from_count, in_or_not, not_in_from_count}
-use Rattle.page_lists.proofs.Moves.{IsPartition-fresh, fresh_pages}
+use Rattle.page_lists.proofs.Counts.{at_most_one, count_in, count_not_in, count-minus, in_from_count, in_or_not, not_in_from_count}
 use Rattle.page_walk.specs.Evidence.{AreOnce}
 use Rattle.page_walk.proofs.Witness.{fewer_minus}
 
@@ -104,13 +103,6 @@ filter-first t a (suc n) p low high is none =
     ]
 
 -- ---- pages of a file
-
-pub count_pages : (n q : ℕ) → count q (range_with_len 1 n) ≡ (if is_page n q then 1 else 0)
-count_pages n q = ap (count q) (sym (fresh_pages n 0)) ∙ IsPartition-fresh n 0 q
-
-pub at_most_one : (b : Bool) → (if b then 1 else 0) ≤ 1
-at_most_one true = omega arith
-at_most_one false = omega arith
 
 -- unused pages are pages, each once
 pub page_of_unused : (n q : ℕ) (unused : List ℕ) → AreOnce n unused → is_in q unused ≡ true → is_page n q ≡ true

@@ -9,6 +9,7 @@ use Rattle.std.proofs.lemmas.Grind.{get_or-set_at}
 use Rattle.std.proofs.lemmas.List.{drop_more, get_or-replicate, get_or-set_other, length-replicate, length-set}
 use Rattle.std.proofs.lemmas.List.Elements.{filter-append}
 use Rattle.std.proofs.Math.Bool.{or-false}
+use Rattle.std.proofs.lemmas.Option.{IfSome_then}
 use Rattle.page_access.specs.Cache.{Cache, HasAll, IsCacheOf}
 use Rattle.page_access.specs.Files.{IsWhole, file_of}
 use Rattle.page_access.specs.Outside.{KeepsSource}
@@ -17,9 +18,9 @@ use Rattle.page_access.specs.declared.geometry.Geometry.{Geometry}
 use Rattle.page_access.specs.declared.outside.Source as source
 use Rattle.page_access.proofs.Caching.{cached_at}
 use Rattle.page_access.proofs.Keeps.{Passed, passed_more, passed_none}
+use Rattle.page_access.proofs.Told.{always_told, both_told}
 use Rattle.page_lists.specs.Lists.{is_in}
 use Rattle.page_walk.specs.Walk.{children}
-use Rattle.page_walk.proofs.Going.{always_told, both_told, one_told}
 use Rattle.page_lists.proofs.Counts.{in_head}
 use Rattle.page_walk.proofs.Levels.{in_back, names_of_level}
 use Rattle.page_walk.proofs.Trees.{children_are_named}
@@ -176,8 +177,10 @@ pub fewer_reads : (o : Option (List ℕ)) (geo : Geometry) (u : List ℕ) (befor
     → IfSome o (λ all. IsWhole all geo → now + length (to_read all geo u i) ≤ before + length (orphan_pages (file_of all geo) u))
     → IfSome o (λ all. IsWhole all geo → now ≤ before + length (orphan_pages (file_of all geo) u))
 fewer_reads o geo u before now i read =
-    one_told (λ all. IsWhole all geo → now + length (to_read all geo u i) ≤ before + length (orphan_pages (file_of all geo) u))
-    (λ all. IsWhole all geo → now ≤ before + length (orphan_pages (file_of all geo) u)) o (λ all p whole. omega (arith, p whole)) read
+    IfSome_then o
+    {P = λ all. IsWhole all geo → now + length (to_read all geo u i) ≤ before + length (orphan_pages (file_of all geo) u)}
+    {Q = λ all. IsWhole all geo → now ≤ before + length (orphan_pages (file_of all geo) u)}
+    read (λ all p whole. omega (arith, p whole))
 
 pub marking_more : {S : Type 0} {s : source.Ghosts S} {geo : Geometry} {u : List ℕ} {src0 src : S} {cache0 cache : Cache} {marks : List Bool} {i : ℕ}
     (src' : S) (cache' : Cache) (marks' : List Bool) → Marking s geo u src0 src cache0 cache marks i → i < geo.pages
@@ -208,9 +211,11 @@ pub marking_end : {S : Type 0} {s : source.Ghosts S} {geo : Geometry} {u : List 
     → Marking s geo u src0 src cache0 cache marks i → geo.pages ≤ i
     → IfSome (s.bytes src0) (λ all. marks ≡ with_marks (orphan_children (file_of all geo) u) (replicate geo.pages false))
 marking_end {s = s} {geo} {u} {src0} {marks = marks} {i} was end =
-    one_told (λ all. with_marks (to_mark all geo u i) marks ≡ with_marks (orphan_children (file_of all geo) u) (replicate geo.pages false))
-    (λ all. marks ≡ with_marks (orphan_children (file_of all geo) u) (replicate geo.pages false)) (s.bytes src0)
-    (λ all p. sym (ap (λ (n : ℕ). with_marks (flat_map (children_at (file_of all geo) u) (range_with_len (i + 1) n)) marks) none) ∙ p) was.marked
+    IfSome_then (s.bytes src0)
+    {P = λ all. with_marks (to_mark all geo u i) marks ≡ with_marks (orphan_children (file_of all geo) u) (replicate geo.pages false)}
+    {Q = λ all. marks ≡ with_marks (orphan_children (file_of all geo) u) (replicate geo.pages false)}
+    was.marked
+    (λ all p. sym (ap (λ (n : ℕ). with_marks (flat_map (children_at (file_of all geo) u) (range_with_len (i + 1) n)) marks) none) ∙ p)
   where
     none : ◌≡◌ {A = ℕ} (geo.pages - i) 0
     none = omega (arith, end)

@@ -9,6 +9,7 @@ use Rattle.page_access.specs.Pages.{File}
 use Rattle.page_lists.specs.Lists.{IsPartOf, count, is_in, minus}
 use Rattle.page_lists.specs.Table.{is_page}
 use Rattle.page_lists.proofs.Counts.{count_in, count_not_in, count-minus, in_from_count, in_head, in_or_not, in_part, minus-append, part_append}
+use Rattle.page_lists.proofs.Moves.{count_pages}
 use Rattle.cell_reader.specs.declared.shapes.Kind.{Kind}
 use Rattle.page_walk.specs.Evidence.{AreOnce}
 use Rattle.page_walk.specs.Walk.{kind_on}
@@ -18,7 +19,7 @@ use Rattle.page_walk.proofs.Witness.{fewer_minus}
 use Rattle.orphan_trees.specs.Laws.{OrphansAlwaysHold}
 use Rattle.orphan_trees.specs.Orphans.{Orphan, behind_first, first_roots, is_orphan, least_tree, least_trees, orphan_children, orphan_pages, orphan_trees, pages_in, tree_at, tree_pages, trees_at}
 use Rattle.orphan_trees.specs.Passes.{found_in, has_pages}
-use Rattle.orphan_trees.proofs.Lists.{count_pages, filter-first, filter-none, not_back, not_taken, once_left, one_at_most, page_of_unused, taken_gone}
+use Rattle.orphan_trees.proofs.Lists.{filter-first, filter-none, not_back, not_taken, once_left, one_at_most, page_of_unused, taken_gone}
 use Rattle.orphan_trees.proofs.Walks.{orphan_from, orphan_parts, tree_child, tree_kinds, tree_none, tree_part, tree_some}
 
 -- ---- trees that have pages

@@ -1,12 +1,13 @@
 -- The kinds of a survey are those of the pages.
-use Rattle.std.proofs.Common.{◌≡◌, ◌≤◌, ℕ, ◌+◌, ◌-◌, Bool, true, false, ◌&&◌, Option, Some, None, List, [], ◌++◌, refl, sym, ◌∙◌, ap, subst, inl, inr, arith}
+use Rattle.std.proofs.Common.{◌≡◌, ◌≤◌, ℕ, ◌+◌, Bool, true, false, ◌&&◌, Option, Some, None, List, [], ◌++◌, refl, sym, ◌∙◌, ap, subst, arith}
 use Rattle.std.specs.Prelude.{IfSome, ℤ, if◌then◌else◌, is_some, nat_le, pos, filter}
-use Rattle.std.proofs.lemmas.Bool.{and_from, and_parts, cases_Bool, le-leb, leb-true}
+use Rattle.std.proofs.lemmas.Bool.{and_from, le-leb}
 use Rattle.std.proofs.lemmas.List.Elements.{filter_agree}
-use Rattle.std.proofs.lemmas.List.FromFn.{get_or-map-range_with_len}
+use Rattle.std.proofs.lemmas.Option.{IfSome_then}
 use Rattle.page_access.specs.Files.{IsWhole, file_of}
 use Rattle.page_access.specs.Pages.{File}
 use Rattle.page_access.specs.declared.geometry.Geometry.{Geometry}
+use Rattle.page_access.proofs.Told.{both_told}
 use Rattle.page_lists.specs.Lists.{is_in}
 use Rattle.page_lists.specs.Table.{MovesFront, Table, is_page}
 use Rattle.cell_reader.specs.declared.shapes.Kind.{Kind}
@@ -14,7 +15,6 @@ use Rattle.page_walk.specs.Kinds.{kind_at}
 use Rattle.page_walk.specs.Pointers.{pointers_on}
 use Rattle.page_walk.specs.Taking.{is_of_kind}
 use Rattle.page_walk.specs.Walk.{children, kind_on, kinds_of, same_kind, walk}
-use Rattle.page_walk.proofs.Going.{both_told, one_told}
 use Rattle.page_walk.proofs.Found.{kind_of_page, wanted_is}
 use Rattle.tree_uses.specs.Trees.{walk_for}
 use Rattle.orphan_trees.specs.Orphans.{Orphan, is_orphan, tree_at}
@@ -27,8 +27,9 @@ page_is n p low high = and_from (nat_le 1 p) (nat_le p n) (le-leb 1 p low) (le-l
 pub kind_told : (o : Option (List ℕ)) (geo : Geometry) (ks : List (Option Kind)) (p : ℕ) (k : Option Kind) → 1 ≤ p → p ≤ geo.pages
     → IfSome o (λ all. ks ≡ kinds_of (file_of all geo)) → kind_at ks p ≡ k → IfSome o (λ all. kind_on (file_of all geo) p ≡ k)
 kind_told o geo ks p k low high surveyed is =
-    one_told (λ all. ks ≡ kinds_of (file_of all geo)) (λ all. kind_on (file_of all geo) p ≡ k) o
-    (λ all same. sym (kind_of_page (file_of all geo) p (page_is geo.pages p low high)) ∙ sym (ap (λ (xs : List (Option Kind)). kind_at xs p) same) ∙ is) surveyed
+    IfSome_then o {P = λ all. ks ≡ kinds_of (file_of all geo)} {Q = λ all. kind_on (file_of all geo) p ≡ k}
+    surveyed
+    (λ all same. sym (kind_of_page (file_of all geo) p (page_is geo.pages p low high)) ∙ sym (ap (λ (xs : List (Option Kind)). kind_at xs p) same) ∙ is)
 
 -- a walk of the kind that the survey gives is the tree of the page
 pub tree_told : (o : Option (List ℕ)) (geo : Geometry) (ks : List (Option Kind)) (p : ℕ) (k : Option Kind) (u pages : List ℕ) → 1 ≤ p → p ≤ geo.pages
@@ -123,11 +124,12 @@ pub unmarked_told : (o : Option (List ℕ)) (geo : Geometry) (ks : List (Option 
     → IfSome o (λ all. ks ≡ kinds_of (file_of all geo)) → kind_unused ks u p ≡ None
     → IfSome o (λ all. marks ≡ with_marks (children_at (file_of all geo) u p) marks)
 unmarked_told o geo ks u p marks low high surveyed is =
-    one_told (λ all. ks ≡ kinds_of (file_of all geo)) (λ all. marks ≡ with_marks (children_at (file_of all geo) u p) marks) o
+    IfSome_then o {P = λ all. ks ≡ kinds_of (file_of all geo)} {Q = λ all. marks ≡ with_marks (children_at (file_of all geo) u p) marks}
+    surveyed
     (λ all same.
     let f : File = file_of all geo in
     let other : is_orphan f u p ≡ false = orphan_none f u p (page_is geo.pages p low high) (ap (λ (xs : List (Option Kind)). kind_unused xs u p) (sym same) ∙ is) in
-    sym (ap (λ (b : Bool). with_marks (if b then children f p else []) marks) other)) surveyed
+    sym (ap (λ (b : Bool). with_marks (if b then children f p else []) marks) other))
 
 -- one read of an orphan page
 pub read_told : (o : Option (List ℕ)) (geo : Geometry) (ks : List (Option Kind)) (u : List ℕ) (p : ℕ) (k : Kind) (before now : ℕ) → 1 ≤ p → p ≤ geo.pages

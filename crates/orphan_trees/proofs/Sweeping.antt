@@ -4,16 +4,17 @@ use Rattle.std.specs.Prelude.{IfSome, if◌then◌else◌}
 use Rattle.std.specs.List.{AllByRecursion, range_with_len}
 use Rattle.std.proofs.lemmas.Grind.{flat_map-append}
 use Rattle.std.proofs.lemmas.List.Elements.{filter-append}
+use Rattle.std.proofs.lemmas.Option.{IfSome_then}
 use Rattle.page_access.specs.Cache.{HasAll, IsCacheOf}
 use Rattle.page_access.specs.Files.{file_of}
 use Rattle.page_access.specs.declared.geometry.Geometry.{Geometry}
 use Rattle.page_access.specs.declared.outside.Source as source
+use Rattle.page_access.proofs.Told.{both_told}
 use Rattle.page_lists.specs.Lists.{IsPartOf}
 use Rattle.page_lists.specs.Table.{MovesFront, Table, all_moved, unused}
 use Rattle.page_lists.proofs.Counts.{part_none}
 use Rattle.page_walk.specs.Turns.{ReadsEach}
 use Rattle.page_walk.proofs.Fronts.{front_all, then_front}
-use Rattle.page_walk.proofs.Going.{both_told, one_told}
 use Rattle.page_walk.proofs.InTurn.{Moment, Stepped, Stepping, Steps, stepping_more, stepping_reads, stepping_start, stepping_value}
 use Rattle.tree_uses.proofs.Parts.{part_more}
 use Rattle.orphan_trees.specs.Orphans.{IsOrphanOf, Orphan, pages_in, tree_at, tree_pages, trees_at}
@@ -105,9 +106,11 @@ pub sweeping_value : {S : Type 0} {s : source.Ghosts S} {geo : Geometry} {marks 
     → Sweeping s geo marks i first now found → geo.pages ≤ i
     → IfSome (s.bytes first.src) (λ all. found ≡ found_in (trees_at (file_of all geo) (all_roots geo marks) (unused first.table)))
 sweeping_value {s = s} {geo} {marks} {i} {first} {found = found} was end =
-    one_told (λ all. was.done ≡ trees_at (file_of all geo) (all_roots geo marks) (unused first.table))
-    (λ all. found ≡ found_in (trees_at (file_of all geo) (all_roots geo marks) (unused first.table))) (s.bytes first.src)
-    (λ all p. was.found_are ∙ ap found_in p) (stepping_value was.steps (no_roots geo marks i end))
+    IfSome_then (s.bytes first.src)
+    {P = λ all. was.done ≡ trees_at (file_of all geo) (all_roots geo marks) (unused first.table)}
+    {Q = λ all. found ≡ found_in (trees_at (file_of all geo) (all_roots geo marks) (unused first.table))}
+    (stepping_value was.steps (no_roots geo marks i end))
+    (λ all p. was.found_are ∙ ap found_in p)
 
 pub sweeping_moved : {S : Type 0} {s : source.Ghosts S} {geo : Geometry} {marks : List Bool} {i : ℕ} {first now : Moment S} {found : List Orphan}
     → Sweeping s geo marks i first now found → now.table ≡ all_moved (pages_in found) 6 first.table
@@ -160,10 +163,12 @@ pub sweeping_all : {S : Type 0} {s : source.Ghosts S} {geo : Geometry} {marks : 
     → Sweeping s geo marks i first now found → geo.pages ≤ i
     → IfSome (s.bytes first.src) (λ all. MovesFront (pages_in (trees_at (file_of all geo) (all_roots geo marks) (unused first.table))) 6 first.table now.table)
 sweeping_all {s = s} {geo} {marks} {i} {first} {now} was end =
-    one_told (λ all. was.done ≡ trees_at (file_of all geo) (all_roots geo marks) (unused first.table))
-    (λ all. MovesFront (pages_in (trees_at (file_of all geo) (all_roots geo marks) (unused first.table))) 6 first.table now.table) (s.bytes first.src)
+    IfSome_then (s.bytes first.src)
+    {P = λ all. was.done ≡ trees_at (file_of all geo) (all_roots geo marks) (unused first.table)}
+    {Q = λ all. MovesFront (pages_in (trees_at (file_of all geo) (all_roots geo marks) (unused first.table))) 6 first.table now.table}
+    (stepping_value was.steps (no_roots geo marks i end))
     (λ all p. front_all (pages_in (trees_at (file_of all geo) (all_roots geo marks) (unused first.table))) 6 first.table now.table
-    (was.steps.moved ∙ ap (λ (ts : List Orphan). all_moved (pages_in ts) 6 first.table) p)) (stepping_value was.steps (no_roots geo marks i end))
+    (was.steps.moved ∙ ap (λ (ts : List Orphan). all_moved (pages_in ts) 6 first.table) p))
 
 -- the reads at an exit
 pub sweeping_reads : {S : Type 0} {s : source.Ghosts S} {geo : Geometry} {marks : List Bool} {i : ℕ} {first now : Moment S} {found : List Orphan}

@@ -7,6 +7,7 @@ use Rattle.page_access.specs.Pages.{File}
 use Rattle.page_lists.specs.Lists.{IsPartOf, count, is_in, without}
 use Rattle.page_lists.specs.Table.{is_page}
 use Rattle.page_lists.proofs.Counts.{in_from_count, in_head, in_part, part_none}
+use Rattle.page_lists.proofs.Moves.{count_pages}
 use Rattle.cell_reader.specs.declared.shapes.Kind.{Kind}
 use Rattle.page_walk.specs.Evidence.{AreOnce}
 use Rattle.page_walk.specs.Reach.{IsRoot, Reach, child, start}
@@ -16,7 +17,7 @@ use Rattle.page_walk.proofs.Levels.{levels_first, named_by_level}
 use Rattle.page_walk.proofs.Trees.{children_are_named, walk_from_root, walk_is_tree}
 use Rattle.tree_uses.specs.Trees.{walk_for}
 use Rattle.orphan_trees.specs.Orphans.{is_orphan, orphan_children, orphan_pages, tree_at}
-use Rattle.orphan_trees.proofs.Lists.{count-filter, count_pages, page_of_unused}
+use Rattle.orphan_trees.proofs.Lists.{count-filter, page_of_unused}
 
 -- a page with a shape has a kind
 kind_of_some : (o : Option Kind) → is_some o ≡ true → (k : Kind) × (o ≡ Some k)

@@ -1,16 +1,14 @@
 -- Each page has one use at most, and the readable cells of the orphan trees have their evidence.
-use Rattle.std.proofs.Common.{◌≡◌, ◌≤◌, ℕ, ◌+◌, Bool, List, [], ◌∷◌, ◌++◌, true, sym, ◌∙◌, ap, subst, arith, refl}
+use Rattle.std.proofs.Common.{◌≡◌, ℕ, ◌+◌, Bool, List, [], ◌∷◌, ◌++◌, sym, ◌∙◌, ap, subst, arith, refl}
 use Rattle.std.specs.Prelude.{if◌then◌else◌, Option}
 use Rattle.std.specs.List.{AllByRecursion, flat_map}
-use Rattle.std.proofs.lemmas.Bool.Decides.{nat_tests}
 use Rattle.std.proofs.lemmas.Grind.{flat_map-append}
 use Rattle.page_access.specs.Pages.{File}
 use Rattle.page_lists.specs.Lists.{IsPartOf, count, minus}
 use Rattle.page_lists.specs.Table.{is_page}
-use Rattle.page_lists.proofs.Counts.{count-minus, in_head, in_part}
-use Rattle.page_walk.specs.Bounds.{ArePages}
+use Rattle.page_lists.proofs.Counts.{at_most_one, count-minus}
 use Rattle.page_walk.specs.Cells.{Outcome, Row}
-use Rattle.page_walk.specs.Evidence.{AreOnce, Evidence}
+use Rattle.page_walk.specs.Evidence.{Evidence}
 use Rattle.page_walk.specs.Turns.{chains_on, turns_on}
 use Rattle.page_walk.proofs.Chains.{chains_are_unused}
 use Rattle.page_walk.proofs.Witness.{pages_have_evidence}
@@ -20,10 +18,11 @@ use Rattle.raw_schema.specs.declared.rows.SchemaRow.{SchemaRow}
 use Rattle.tree_uses.specs.Trees as trees
 use Rattle.tree_uses.proofs.Splits.{trees_take_turns}
 use Rattle.orphan_trees.specs.Orphans.{Orphan, pages_in}
-use Rattle.orphan_trees.proofs.Lists.{at_most_one, once_left, page_of_unused}
+use Rattle.orphan_trees.proofs.Lists.{once_left}
 use Rattle.orphan_trees.proofs.Rule.{orphans_hold}
 use Rattle.use_order.specs.Laws.{table_cells}
 use Rattle.use_order.specs.Order.{AreInOrder, behind_schema}
+use Rattle.use_order.proofs.Holding.{are_pages}
 use Rattle.orphan_uses.specs.Laws.{OrphanUsesAlwaysHold, orphan_rows}
 use Rattle.orphan_uses.specs.Order.{AreOrphans, behind_free, free_of, orphan_turns}
 use Rattle.orphan_uses.proofs.Parts.{frees_part, orphans_part, orphans_take_chains, orphans_take_turns}
@@ -67,16 +66,6 @@ tables_within f u rows rs tables indexes turns o =
     ap table_cells o.turns_are ∙ cells_joined (trees.turns_in f tables d) ∙ ap cells_in (trees_take_turns f tables d).turns in
     subst (λ (cs : List ℕ). Within (trees.pages_in tables) cs (table_cells turns)) (sym chains)
     (subst (Within (trees.pages_in tables) (chains_on f (trees.pages_in tables) d)) (sym cells) (within_turns f (trees.pages_in tables) d))
-
-page_bounds : (n p : ℕ) → is_page n p ≡ true → (1 ≤ p) × (p ≤ n)
-page_bounds n p is = (grind (arith, nat_tests, is), grind (arith, nat_tests, is))
-
-are_pages : (n : ℕ) (ps unused : List ℕ) → AreOnce n unused → IsPartOf ps unused → ArePages n ps
-are_pages n [] u once part = tt
-are_pages n (p ∷ ps) u once part = (
-  page_bounds n p (page_of_unused n p u once (in_part p (p ∷ ps) u part (in_head p ps))),
-  are_pages n ps u once (λ q. omega (arith, part q)),
-)
 
 pub uses_hold : OrphanUsesAlwaysHold
 uses_hold f u trunk ts turns o =

@@ -2,6 +2,7 @@
 use Rattle.std.proofs.Common.{◌≡◌, ℕ, Option, Some, None, List, refl, ◌∙◌, ap, arith}
 use Rattle.std.specs.Prelude.{IfSome}
 use Rattle.std.specs.List.{flat_map}
+use Rattle.std.proofs.lemmas.Option.{IfSome_then}
 use Rattle.page_access.specs.Files.{file_of}
 use Rattle.page_access.specs.Pages.{File}
 use Rattle.page_access.specs.declared.geometry.Geometry.{Geometry}
@@ -10,7 +11,6 @@ use Rattle.page_lists.specs.Table.{Table, all_moved, unused}
 use Rattle.page_lists.proofs.Uses.{unused-all_moved}
 use Rattle.overflow_chain.specs.declared.TheConstants.{OVERFLOW_LIST}
 use Rattle.page_walk.specs.Cells.{Outcome}
-use Rattle.page_walk.proofs.Going.{one_told}
 use Rattle.freelist_core.specs.declared.TheConstants.{FREE_LIST}
 use Rattle.tree_uses.specs.Trees.{chains_in}
 use Rattle.orphan_trees.specs.Orphans.{Orphan, orphan_trees, pages_in}
@@ -43,6 +43,8 @@ pub table_is : (o : Option (List ℕ)) (geo : Geometry) (t0 t1 t2 t3 : Table) (t
     → IfSome o (λ all. t1 ≡ all_moved (free_of (file_of all geo) (unused t0) trunk) FREE_LIST t0) → t2 ≡ all_moved (pages_in trees) ORPHAN_LIST t1
     → t3 ≡ all_moved (flat_map chains_in turns) OVERFLOW_LIST t2 → IfSome o (λ all. t3 ≡ after_orphans (file_of all geo) t0 trunk trees turns)
 table_is o geo t0 t1 t2 t3 trunk trees turns free m2 m3 =
-    one_told (λ all. t1 ≡ all_moved (free_of (file_of all geo) (unused t0) trunk) FREE_LIST t0)
-    (λ all. t3 ≡ after_orphans (file_of all geo) t0 trunk trees turns) o
-    (λ all e. m3 ∙ ap (all_moved (flat_map chains_in turns) OVERFLOW_LIST) (m2 ∙ ap (all_moved (pages_in trees) ORPHAN_LIST) e)) free
+    IfSome_then o
+    {P = λ all. t1 ≡ all_moved (free_of (file_of all geo) (unused t0) trunk) FREE_LIST t0}
+    {Q = λ all. t3 ≡ after_orphans (file_of all geo) t0 trunk trees turns}
+    free
+    (λ all e. m3 ∙ ap (all_moved (flat_map chains_in turns) OVERFLOW_LIST) (m2 ∙ ap (all_moved (pages_in trees) ORPHAN_LIST) e))

@@ -5,7 +5,8 @@ use Rattle.std.specs.List.{flat_map, range_with_len}
 use Rattle.std.proofs.lemmas.Grind.{flat_map-append}
 use Rattle.page_access.specs.Pages.{File}
 use Rattle.page_lists.specs.Lists.{IsPartOf, count, is_in, minus}
-use Rattle.page_lists.proofs.Counts.{count_in, length-minus, part_append, part_none}
+use Rattle.page_lists.proofs.Counts.{at_most_one, count_in, length-minus, part_append, part_none}
+use Rattle.page_lists.proofs.Moves.{count_pages}
 use Rattle.page_walk.specs.Cells.{Outcome}
 use Rattle.page_walk.specs.Turns.{chains_on, turns_on}
 use Rattle.freelist_core.specs.Free.{free_pages, taken_at, taken_from}
@@ -14,7 +15,7 @@ use Rattle.freelist_core.proofs.Steps.{taken_part}
 use Rattle.tree_uses.specs.Trees as trees
 use Rattle.tree_uses.proofs.Splits.{trees_take_turns}
 use Rattle.orphan_trees.specs.Orphans.{Orphan, behind_first, first_roots, is_orphan, least_tree, least_trees, orphan_pages, orphan_trees, pages_in, tree_at, tree_pages, trees_at}
-use Rattle.orphan_trees.proofs.Lists.{at_most_one, count-filter, count_pages}
+use Rattle.orphan_trees.proofs.Lists.{count-filter}
 use Rattle.orphan_trees.proofs.Rule.{trees_part}
 use Rattle.orphan_trees.proofs.Walks.{orphan_parts, tree_part}
 use Rattle.page_lists.specs.Table.{is_page}

@@ -4,6 +4,7 @@ use Rattle.std.specs.Prelude.{IfSome}
 use Rattle.std.specs.List.{AllByRecursion, flat_map}
 use Rattle.std.proofs.lemmas.Grind.{flat_map-append}
 use Rattle.std.proofs.lemmas.List.{map-append}
+use Rattle.std.proofs.lemmas.Option.{IfSome_then}
 use Rattle.page_access.specs.declared.geometry.Geometry.{Geometry}
 use Rattle.page_access.specs.declared.outside.Source as source
 use Rattle.page_access.specs.Cache.{HasAll, IsCacheOf}
@@ -11,13 +12,14 @@ use Rattle.page_access.specs.Files.{IsWhole, file_of}
 use Rattle.page_access.specs.Outside.{KeepsSource}
 use Rattle.page_access.proofs.Caching.{cached_at}
 use Rattle.page_access.proofs.Keeps.{Passed, passed_more, passed_none}
+use Rattle.page_access.proofs.Told.{always_told, both_told}
 use Rattle.page_lists.specs.Lists.{minus}
 use Rattle.page_lists.specs.Table.{Moves, Table, all_moved, unused}
 use Rattle.page_lists.proofs.Uses.{Moves-append, Moves-none, all_moved-append, unused-all_moved}
 use Rattle.page_walk.specs.Cells.{Outcome}
 use Rattle.page_walk.specs.InTurn.{IsSmallTurn}
 use Rattle.page_walk.specs.Turns.{ReadsEach}
-use Rattle.page_walk.proofs.Going.{all_append, always_told, both_told, one_told}
+use Rattle.page_walk.proofs.Going.{all_append}
 use Rattle.page_walk.proofs.InTurn.{Moment, reads_more, reads_none, reads_weaker}
 use Rattle.tree_uses.specs.Trees.{chains_in}
 use Rattle.orphan_trees.specs.Orphans.{IsOrphanOf, Orphan, pages_in}
@@ -145,9 +147,11 @@ turning_more {S} {s = s} {geo} {trees} {left} {first} {now} {done} now' t rest x
 pub turning_value : {S : Type 0} {s : source.Ghosts S} {geo : Geometry} {trees left : List Orphan} {first now : Moment S} {done : List (List (ℕ × List Outcome))}
     → Turning s geo trees left first now done → left ≡ [] → IfSome (s.bytes first.src) (λ all. done ≡ orphan_turns (file_of all geo) trees (unused first.table))
 turning_value {s = s} {geo} {trees} {left} {first} {now} {done} was end =
-    one_told (λ all. done ++ orphan_turns (file_of all geo) left (unused now.table) ≡ orphan_turns (file_of all geo) trees (unused first.table))
-    (λ all. done ≡ orphan_turns (file_of all geo) trees (unused first.table)) (s.bytes first.src)
-    (λ all p. sym (append-nil done) ∙ ap (λ (ts : List Orphan). done ++ orphan_turns (file_of all geo) ts (unused now.table)) (sym end) ∙ p) was.value
+    IfSome_then (s.bytes first.src)
+    {P = λ all. done ++ orphan_turns (file_of all geo) left (unused now.table) ≡ orphan_turns (file_of all geo) trees (unused first.table)}
+    {Q = λ all. done ≡ orphan_turns (file_of all geo) trees (unused first.table)}
+    was.value
+    (λ all p. sym (append-nil done) ∙ ap (λ (ts : List Orphan). done ++ orphan_turns (file_of all geo) ts (unused now.table)) (sym end) ∙ p)
 
 pub turning_each : {S : Type 0} {s : source.Ghosts S} {geo : Geometry} {trees left : List Orphan} {first now : Moment S} {done : List (List (ℕ × List Outcome))}
     → Turning s geo trees left first now done → left ≡ [] → HaveOrphanTurns trees done
@@ -174,11 +178,11 @@ pub turning_done : {S : Type 0} {s : source.Ghosts S} {geo : Geometry} {trees le
     (more : ℕ) → Turning s geo trees left first now done
     → ReadsEach (s.bytes first.src) geo first.table now.table (s.reads first.src) (s.reads now.src) (length (pages_in trees) + more)
 turning_done {s = s} {geo} {trees} {left} {first} {now} more was =
-    one_told
-    (λ all. IsWhole all geo → s.reads now.src + length (unused now.table) + length (pages_in left)
-    ≤ s.reads first.src + length (unused first.table) + length (pages_in trees))
-    (λ all. IsWhole all geo → s.reads now.src + length (unused now.table) ≤ s.reads first.src + length (unused first.table) + (length (pages_in trees) + more))
-    (s.bytes first.src) (λ all p whole. omega (arith, p whole)) was.read
+    IfSome_then (s.bytes first.src)
+    {P = λ all. IsWhole all geo → s.reads now.src + length (unused now.table) + length (pages_in left)
+    ≤ s.reads first.src + length (unused first.table) + length (pages_in trees)}
+    {Q = λ all. IsWhole all geo → s.reads now.src + length (unused now.table) ≤ s.reads first.src + length (unused first.table) + (length (pages_in trees) + more)}
+    was.read (λ all p whole. omega (arith, p whole))
 
 pub turning_full : {S : Type 0} {s : source.Ghosts S} {geo : Geometry} {trees left : List Orphan} {first now : Moment S} {done : List (List (ℕ × List Outcome))}
     (m : Moment S) (more : ℕ) → Turning s geo trees left first now done

@@ -1,6 +1,7 @@
 -- The loop over the pages of a chain: what holds at each page, and what it leaves at each exit.
 use Rattle.std.proofs.Common.{◌≡◌, ℕ, ◌+◌, ◌-◌, ◌*◌, ◌<◌, ◌≤◌, ◌⊎◌, inl, inr, true, false, if◌then◌else◌, Option, Some, None, IfSome, Result, Ok, Err, IsErr, is_ok, List, [], ◌∷◌, ◌++◌, length, take, refl, sym, ap, ◌∙◌, subst, arith}
 use Rattle.std.proofs.Math.Nat.{mul-le-mul_right}
+use Rattle.std.proofs.lemmas.Option.{IfSome_then}
 use Rattle.std.specs.List.{slice_range}
 use Rattle.byteorder.specs.Endian.{big_number}
 use Rattle.page_access.specs.Files.{IsWhole, file_of}
@@ -8,6 +9,7 @@ use Rattle.page_access.specs.Outside.{KeepsSource}
 use Rattle.page_access.specs.Pages.{page_of}
 use Rattle.page_access.specs.declared.geometry.Geometry.{Geometry}
 use Rattle.page_access.proofs.Keeps.{Passed, passed_more, passed_none}
+use Rattle.page_access.proofs.Told.{always_told, both_told}
 use Rattle.page_lists.specs.Lists.{count, is_in, without}
 use Rattle.page_lists.specs.Table.{Table, IsPartition, Moves, is_page, moved, unused}
 use Rattle.page_lists.proofs.Counts.{length-without}
@@ -24,19 +26,6 @@ use Rattle.overflow_chain.proofs.Longest.{whole_turn_is_chain}
 -- a number that is no page's is not unused
 pub out_of_range : (t : Table) (at : ℕ) → IsPartition t → is_page t.pages at ≡ false → (is_in at (unused t) ≡ false) × (Range ≡ why_not t.pages at)
 out_of_range t at each other = (unused_not_page t at each other, rw other refl)
-
--- two facts of told bytes make a third
-told : (P Q R : List ℕ → Type 0) (o o' : Option (List ℕ)) → o' ≡ o → ((all : List ℕ) → P all → Q all → R all) → IfSome o P → IfSome o' Q → IfSome o R
-told P Q R None o' e f p q = tt
-told P Q R (Some all) o' e f p q = f all p (subst (λ (x : Option (List ℕ)). IfSome x Q) e q)
-
-told_one : (P R : List ℕ → Type 0) (o : Option (List ℕ)) → ((all : List ℕ) → P all → R all) → IfSome o P → IfSome o R
-told_one P R None f p = tt
-told_one P R (Some all) f p = f all p
-
-always : (R : List ℕ → Type 0) (o : Option (List ℕ)) → ((all : List ℕ) → R all) → IfSome o R
-always R None f = tt
-always R (Some all) f = f all
 
 -- as many reads as pages that moved, where all pages are there
 abbrev pub Paid : {S : Type 0} → (S → ℕ) → Geometry → S → S → Table → Table → List ℕ → Type 0
@@ -62,8 +51,8 @@ reading_start bytes attached faults reads geo q need src t pages to each same li
   same_pages = same;
   lists = lists;
   moves = Moves-none OVERFLOW_LIST t;
-  paid = always (λ all. Paid reads geo src src t t all) (bytes src) (λ all whole. omega arith);
-  so_far = always (λ all. Turning (file_of all geo) q need t t pages pages to to need q) (bytes src) (λ all. turning_start (file_of all geo) q need t pages to);
+  paid = always_told (λ all. Paid reads geo src src t t all) (bytes src) (λ all whole. omega arith);
+  so_far = always_told (λ all. Turning (file_of all geo) q need t t pages pages to to need q) (bytes src) (λ all. turning_start (file_of all geo) q need t pages to);
   taking = taking_start need t pages to;
 }
 
@@ -107,11 +96,11 @@ reading_more {bytes = bytes} {reads = reads} {geo = geo} {q} {need} {src} {src'}
       lists = r.lists;
       moves = Moves-append OVERFLOW_LIST t t' t'' (omega arith) r.moves (subst (λ (u : Table). Moves OVERFLOW_LIST t' u) (sym moves) (Moves-one OVERFLOW_LIST t' at there));
       paid =
-          told (λ all. Paid reads geo src src' t t' all) (λ all. at * geo.page_size ≤ length all → reads src'' ≤ reads src' + 1) (λ all. Paid reads geo src src'' t t'' all)
+          both_told (λ all. Paid reads geo src src' t t' all) (λ all. at * geo.page_size ≤ length all → reads src'' ≤ reads src' + 1) (λ all. Paid reads geo src src'' t t'' all)
           (bytes src) (bytes src') r.kept.told
           (λ all before next whole. omega (arith, before whole, next (omega (arith, whole, mul-le-mul_right geo.page_size page.1)), shorter)) r.paid one;
       so_far = rw (follow, less)
-          (told (λ all. Turning (file_of all geo) q need t t' pages pages' to to' missing at) (λ all. buffer ≡ page_of all geo.page_size at)
+          (both_told (λ all. Turning (file_of all geo) q need t t' pages pages' to to' missing at) (λ all. buffer ≡ page_of all geo.page_size at)
           (λ all. Turning (file_of all geo) q need t t'' pages pages'' to to'' (missing - (geo.usable - 4)) (big_number 4 buffer)) (bytes src) (bytes src') r.kept.told
           (λ all before is. turning_more (file_of all geo) q need t t' t'' pages pages' pages'' to to' to'' buffer missing at geo.usable_least geo.usable_most some there is pushed put moves before)
           r.so_far read);
@@ -123,8 +112,9 @@ pub reading_done : {S : Type 0} {bytes attached : S → Option (List ℕ)} {faul
     → Reading bytes attached faults reads geo q need src src' t t' pages pages' to to' missing at → missing ≡ 0
     → IfSome (bytes src) (λ all. Turned (file_of all geo) q need t t' pages pages' to to' Whole)
 reading_done {bytes = bytes} {geo = geo} {q} {need} {src} {t = t} {t'} {pages} {pages'} {to} {to'} {missing} {at} r none =
-    told_one (λ all. Turning (file_of all geo) q need t t' pages pages' to to' missing at) (λ all. Turned (file_of all geo) q need t t' pages pages' to to' Whole) (bytes src)
-    (λ all before. turning_done (file_of all geo) q need t t' pages pages' to to' missing at geo.usable_least none before) r.so_far
+    IfSome_then (bytes src) {P = λ all. Turning (file_of all geo) q need t t' pages pages' to to' missing at} {Q = λ all. Turned (file_of all geo) q need t t' pages pages' to to' Whole}
+    r.so_far
+    (λ all before. turning_done (file_of all geo) q need t t' pages pages' to to' missing at geo.usable_least none before)
 
 -- the unused pages of the table are pages of the file, each once
 unused_once : (t : Table) (p : ℕ) → IsPartition t → count p (unused t) ≤ (if is_page t.pages p then 1 else 0)
@@ -135,7 +125,8 @@ pub reading_chain : {S : Type 0} {bytes attached : S → Option (List ℕ)} {fau
     → Reading bytes attached faults reads geo q need src src' t t' pages pages' to to' missing at → missing ≡ 0
     → IfSome (bytes src) (λ all. GivesChain (file_of all geo) q need pages pages' to to' Whole)
 reading_chain {bytes = bytes} {geo = geo} {q} {need} {src} {t = t} {t'} {pages} {pages'} {to} {to'} r none =
-    told_one (λ all. Turned (file_of all geo) q need t t' pages pages' to to' Whole) (λ all. GivesChain (file_of all geo) q need pages pages' to to' Whole) (bytes src)
+    IfSome_then (bytes src) {P = λ all. Turned (file_of all geo) q need t t' pages pages' to to' Whole} {Q = λ all. GivesChain (file_of all geo) q need pages pages' to to' Whole}
+    (reading_done r none)
     (λ all is. (
       turn_of (file_of all geo) q need (unused t),
       bytes_of (file_of all geo) q need (unused t),
@@ -143,7 +134,6 @@ reading_chain {bytes = bytes} {geo = geo} {q} {need} {src} {t = t} {t'} {pages} 
       is.bytes_are,
       (whole_turn_is_chain (file_of all geo) q need (unused t) (λ p. subst (λ (n : ℕ). count p (unused t) ≤ (if is_page n p then 1 else 0)) r.same_pages (unused_once t p r.each))).is_chain (sym is.end_is),
     ))
-    (reading_done r none)
 
 -- bytes are missing, and the page cannot be taken
 pub reading_broken : {S : Type 0} {bytes attached : S → Option (List ℕ)} {faults reads : S → ℕ} {geo : Geometry} {q need : ℕ} {src src' : S} {t t' : Table} {pages pages' to to' : List ℕ} {missing at : ℕ}
@@ -151,8 +141,9 @@ pub reading_broken : {S : Type 0} {bytes attached : S → Option (List ℕ)} {fa
     → IfSome (bytes src) (λ all. Turned (file_of all geo) q need t t' pages pages' to to' (Broken at why))
 reading_broken {bytes = bytes} {geo = geo} {q} {need} {src} {t = t} {t'} {pages} {pages'} {to} {to'} {missing} {at} why r some out is =
     let why_is : why ≡ why_not geo.pages at = rw (reading_pages r) at is in
-    told_one (λ all. Turning (file_of all geo) q need t t' pages pages' to to' missing at) (λ all. Turned (file_of all geo) q need t t' pages pages' to to' (Broken at why)) (bytes src)
-    (λ all before. turning_broken (file_of all geo) q need t t' pages pages' to to' missing at why geo.usable_least some out why_is before) r.so_far
+    IfSome_then (bytes src) {P = λ all. Turning (file_of all geo) q need t t' pages pages' to to' missing at} {Q = λ all. Turned (file_of all geo) q need t t' pages pages' to to' (Broken at why)}
+    r.so_far
+    (λ all before. turning_broken (file_of all geo) q need t t' pages pages' to to' missing at why geo.usable_least some out why_is before)
 
 -- the reads at an error: one more, since the page was read and did not move
 pub paid_err : {S T E : Type 0} {bytes attached : S → Option (List ℕ)} {faults reads : S → ℕ} {geo : Geometry} {q need : ℕ} {src src' : S} {t t' : Table} {pages pages' to to' : List ℕ} {missing at : ℕ}
@@ -163,7 +154,7 @@ paid_err src'' t'' (Ok x) is reading there same one = absurd cc
 paid_err {bytes = bytes} {reads = reads} {geo = geo} {src = src} {src'} {t} {t'} {at = at} src'' t'' (Err e) is reading there same one =
     let page = reading_page reading there in
     let left : length (unused t'') ≡ length (unused t') = ap (λ (u : Table). length (unused u)) same in
-    told (λ all. Paid reads geo src src' t t' all) (λ all. at * geo.page_size ≤ length all → reads src'' ≤ reads src' + 1)
+    both_told (λ all. Paid reads geo src src' t t' all) (λ all. at * geo.page_size ≤ length all → reads src'' ≤ reads src' + 1)
     (λ all. IsWhole all geo → reads src'' + length (unused t'') ≤ reads src + length (unused t) + 1) (bytes src) (bytes src') reading.kept.told
     (λ all before next whole. omega (arith, before whole, next (omega (arith, whole, mul-le-mul_right geo.page_size page.1)), left)) reading.paid one
 
@@ -172,8 +163,9 @@ pub reading_front : {S : Type 0} {bytes attached : S → Option (List ℕ)} {fau
     → Reading bytes attached faults reads geo q need src src' t t' pages pages' to to' missing at
     → IfSome (bytes src) (λ all. TurnsFront (file_of all geo) q need t t' pages pages' to to')
 reading_front {bytes = bytes} {geo = geo} {q} {need} {src} {t = t} {t'} {pages} {pages'} {to} {to'} {missing} {at} r =
-    told_one (λ all. Turning (file_of all geo) q need t t' pages pages' to to' missing at) (λ all. TurnsFront (file_of all geo) q need t t' pages pages' to to') (bytes src)
-    (λ all before. turning_front (file_of all geo) q need t t' pages pages' to to' missing at before) r.so_far
+    IfSome_then (bytes src) {P = λ all. Turning (file_of all geo) q need t t' pages pages' to to' missing at} {Q = λ all. TurnsFront (file_of all geo) q need t t' pages pages' to to'}
+    r.so_far
+    (λ all before. turning_front (file_of all geo) q need t t' pages pages' to to' missing at before)
 
 -- the same where its next page was not taken, or was appended alone
 pub reading_front_err : {S : Type 0} {bytes attached : S → Option (List ℕ)} {faults reads : S → ℕ} {geo : Geometry} {q need : ℕ} {src src' : S} {t t' : Table} {pages pages' to to' : List ℕ} {missing at : ℕ}
@@ -184,13 +176,14 @@ reading_front_err {bytes = bytes} {geo = geo} {q} {need} {src} {t = t} {t'} {pag
     rw (same_table, same_bytes) (elim grown [
       | inl same ↦ rw same (reading_front r)
       | inr pushed ↦
-          told_one (λ all. Turning (file_of all geo) q need t t' pages pages' to to' missing at) (λ all. TurnsFront (file_of all geo) q need t t' pages pages'' to to') (bytes src)
-          (λ all before. turning_front_more (file_of all geo) q need t t' pages pages' pages'' to to' missing at geo.usable_least some there pushed before) r.so_far
+          IfSome_then (bytes src) {P = λ all. Turning (file_of all geo) q need t t' pages pages' to to' missing at} {Q = λ all. TurnsFront (file_of all geo) q need t t' pages pages'' to to'}
+          r.so_far
+          (λ all before. turning_front_more (file_of all geo) q need t t' pages pages' pages'' to to' missing at geo.usable_least some there pushed before)
     ])
 
 -- nothing was taken yet
 pub front_none : (o : Option (List ℕ)) (geo : Geometry) (q need : ℕ) (t : Table) (pages to : List ℕ)
     → IfSome o (λ all. TurnsFront (file_of all geo) q need t t pages pages to to)
 front_none o geo q need t pages to =
-    always (λ all. TurnsFront (file_of all geo) q need t t pages pages to to) o
+    always_told (λ all. TurnsFront (file_of all geo) q need t t pages pages to to) o
     (λ all. turning_front (file_of all geo) q need t t pages pages to to need q (turning_start (file_of all geo) q need t pages to))

@@ -13,6 +13,11 @@ pub count-append : (q : ℕ) (xs ys : List ℕ) → count q (xs ++ ys) ≡ count
 count-append q [] ys = omega arith
 count-append q (x ∷ xs) ys = omega (arith, count-append q xs ys)
 
+-- a test counts once at most
+pub at_most_one : (b : Bool) → (if b then 1 else 0) ≤ 1
+at_most_one true = omega arith
+at_most_one false = omega arith
+
 -- how often q stands in a list is such a number
 pub counts : (q : ℕ) → IsMeasure (count q)
 counts q = record { none = refl; append = count-append q }

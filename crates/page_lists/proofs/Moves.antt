@@ -1,7 +1,7 @@
 -- What a move of a page does to the lists.
 use Rattle.std.proofs.Common.{◌≡◌, ℕ, zero, suc, ◌+◌, ◌<◌, ◌≤◌, true, false, ◌||◌, ◌==◌, if◌then◌else◌, List, [], ◌∷◌, ◌++◌, length, map, set, replicate, nat_le, refl, sym, ap, ◌∙◌, inl, inr, arith}
 use Rattle.std.proofs.lemmas.Bool.{and_from, and_left, and_right, cases_lt, le-leb, lt-leb, ne_eqb}
-use Rattle.std.proofs.lemmas.Bool.Decides.{eqb_tells}
+use Rattle.std.proofs.lemmas.Bool.Decides.{eqb_tells, nat_tests}
 use Rattle.std.proofs.lemmas.List.{length-map, length-set, append-nil}
 use Rattle.std.specs.List.{concat, range_with_len}
 use Rattle.page_lists.specs.Lists.{is_in, count, without}
@@ -121,6 +121,10 @@ stands_once t p each low high = rw (and_from _ _ (le-leb 1 p low) (le-leb p t.pa
 pub IsPartition-moved : (t : Table) (p l : ℕ) → IsPartition t → 1 ≤ p → p ≤ t.pages → l < length t.lists → IsPartition (moved p l t)
 IsPartition-moved t p l each low high below q = measure-moved (count q) (counts q) p l t.lists (stands_once t p each low high) below ∙ each q
 
+-- a page of a file is one of its numbers
+pub page_bounds : (n p : ℕ) → is_page n p ≡ true → (1 ≤ p) × (p ≤ n)
+page_bounds n p is = (grind (arith, nat_tests, is), grind (arith, nat_tests, is))
+
 -- how often a number stands in a row of pages
 count_row_below : (q a n : ℕ) → q < a → count q (range_with_len a n) ≡ 0
 count_row_below q a zero h = refl
@@ -142,7 +146,8 @@ count_row_above q a (suc n) h =
     let other : (a == q) ≡ false = ne_eqb a q (λ e. omega (arith, e, h)) in
     rw other (omega (arith, count_row_above q (a + 1) n (omega (arith, h))))
 
-count_pages : (n q : ℕ) → count q (range_with_len 1 n) ≡ (if is_page n q then 1 else 0)
+-- each page of a file stands once among its numbers
+pub count_pages : (n q : ℕ) → count q (range_with_len 1 n) ≡ (if is_page n q then 1 else 0)
 count_pages n q =
     elim (cases_lt q 1) [
       | inl below ↦ rw (and_left (nat_le 1 q) (nat_le q n) (lt-leb 1 q below)) (count_row_below q 1 n below)

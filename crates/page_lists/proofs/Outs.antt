@@ -12,7 +12,8 @@ use Rattle.page_lists.specs.Stored.{IsLinked, Spells, Step}
 use Rattle.page_lists.proofs.Counts.{counts, lengths, in_from_count, in_or_not, length-without, without_not_in}
 use Rattle.page_lists.proofs.Joins.{IsJoined, IsOther, IsSized, joined_is, next_of, prev_of, seen, sized_is}
 use Rattle.page_lists.proofs.Moves.{list_at_out, measure_out, owner_below, stands_once}
-use Rattle.page_lists.proofs.Spelled.{Holds, count_at, few_step, holds, only_owner, owner_has}
+use Rattle.page_lists.proofs.Spelled.{Holds, few_step, holds, only_owner, owner_has}
+use Rattle.page_lists.proofs.Uses.{count-list_at}
 use Rattle.page_lists.proofs.Steps.{step_from, step_out, step_to, stepped_from, stepped_to}
 
 -- a neighbour that is not written, since another stood where one is
@@ -126,7 +127,7 @@ out_holds r t p s low high =
     })
   where
     few_at : (k : ℕ) → Holds r t.pages t.lists → count p (list_at k t.lists) ≤ 1
-    few_at k h = omega (arith, h.once p, count_at p k t.lists)
+    few_at k h = omega (arith, h.once p, count-list_at p k t.lists)
 
     linked : (k : ℕ) → Owned r t p → Holds r t.pages t.lists
         → IsSized (owner p t.lists) ((ends_at r (owner p t.lists)).len - 1) r (shorter (owner p t.lists) r)

@@ -13,7 +13,8 @@ use Rattle.page_lists.proofs.Counts.{counts, lengths, count_in, in_head}
 use Rattle.page_lists.proofs.Joins.{IsJoined, IsListed, IsOther, IsSized, joined_is, listed_is, next_of, prev_of, sized_is}
 use Rattle.page_lists.proofs.Moves.{IsPartition-moved, list_at_out, measure-moved, measure_out, owner-moved, owner-moved-other, stands_once}
 use Rattle.page_lists.proofs.Outs.{out_holds, out_owners, unless}
-use Rattle.page_lists.proofs.Spelled.{Holds, count_at, few_step, length_at, no_zero, only_owner}
+use Rattle.page_lists.proofs.Spelled.{Holds, few_step, length_at, no_zero, only_owner}
+use Rattle.page_lists.proofs.Uses.{count-list_at}
 use Rattle.page_lists.proofs.Steps.{step_from, step_put, step_to, stepped_end}
 
 -- what `put_last` asks for
@@ -92,7 +93,7 @@ put_linked r n p l lists h over gone put a b step =
     not_there : (q : ℕ) → 1 ≤ count q (list_at l lists) → q ≡ p → ⊥
     not_there q some e =
         let some' : 1 ≤ count p (list_at l lists) = subst (λ (x : ℕ). 1 ≤ count x (list_at l lists)) e some in
-        omega (arith, some', count_at p l lists, gone)
+        omega (arith, some', count-list_at p l lists, gone)
 
     not_p : (a ≡ 0) ⊎ (1 ≤ count a (list_at l lists)) → a ≢ p
     not_p (inl z) e = over (sym e ∙ z)
@@ -113,7 +114,7 @@ put_other r n p l k lists h over gone apart put a b step =
     not_p q (inl z) e = over (sym e ∙ z)
     not_p q (inr some) e =
         let some' : 1 ≤ count p (list_at k lists) = subst (λ (x : ℕ). 1 ≤ count x (list_at k lists)) e some in
-        omega (arith, some', count_at p k lists, gone)
+        omega (arith, some', count-list_at p k lists, gone)
 
     other_end : IsOther l 0 k b
     other_end = elim (eqb_tells b 0) [ inl z ↦ inr (z.1, apart) | inr o ↦ inl o.1 ]

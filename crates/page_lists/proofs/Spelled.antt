@@ -1,11 +1,10 @@
 -- What the links spell: neighbours of pages, and the lists that a walk along them gives.
-use Rattle.std.proofs.Common.{◌≡◌, ◌⊎◌, inl, inr, ℕ, zero, suc, ◌+◌, ◌<◌, ◌≤◌, ◌==◌, Option, Some, None, List, [], ◌∷◌, length, map, get_or, slice_get, true, false, nat_le, refl, sym, ap, subst, arith, length-append}
+use Rattle.std.proofs.Common.{◌≡◌, ◌⊎◌, inl, inr, ℕ, zero, suc, ◌+◌, ◌<◌, ◌≤◌, ◌==◌, Option, Some, None, List, [], ◌∷◌, length, map, get_or, slice_get, true, false, refl, sym, ap, subst, arith, length-append}
 use Rattle.std.specs.Prelude.{◌^◌, ◌-◌, if◌then◌else◌, unwrap_or}
 use Rattle.std.specs.List.{concat}
-use Rattle.std.proofs.lemmas.Bool.{and_left, and_right, cases_lt, lt-leb}
 use Rattle.std.proofs.lemmas.Bool.Decides.{eqb_tells}
 use Rattle.page_lists.specs.Lists.{after, count, is_in}
-use Rattle.page_lists.specs.Table.{Table, IsPartition, is_page, list_at, owner}
+use Rattle.page_lists.specs.Table.{Table, is_page, list_at, owner}
 use Rattle.page_lists.specs.declared.rings.Ends.{Ends}
 use Rattle.page_lists.specs.Rings.{State, ends_at, link_at, some_page, spelled}
 use Rattle.page_lists.specs.Stored.{IsLinked, Spells}
@@ -13,6 +12,7 @@ use Rattle.page_lists.proofs.Counts.{count-append, in_from_count, in_or_not}
 use Rattle.page_lists.proofs.Joins.{next_of}
 use Rattle.page_lists.proofs.Moves.{stands_once}
 use Rattle.page_lists.proofs.Steps.{follow_is, stepped_from}
+use Rattle.page_lists.proofs.Uses.{count-list_at, page_at_most}
 
 -- a page that some list has is in the list that its owner is
 pub owner_has : (p : ℕ) (lists : List (List ℕ)) → 1 ≤ count p (concat lists) → 1 ≤ count p (list_at (owner p lists) lists)
@@ -22,11 +22,6 @@ owner_has p (xs ∷ lists) h =
       | inl w ↦ rw w.0 w.1
       | inr w ↦ rw w.0 (owner_has p lists (omega (arith, h, count-append p xs (concat lists), w.1)))
     ]
-
-pub count_at : (q k : ℕ) (lists : List (List ℕ)) → count q (list_at k lists) ≤ count q (concat lists)
-count_at q k [] = omega arith
-count_at q zero (xs ∷ lists) = omega (arith, count-append q xs (concat lists))
-count_at q (suc k) (xs ∷ lists) = omega (arith, count-append q xs (concat lists), count_at q k lists)
 
 pub length_at : (k : ℕ) (lists : List (List ℕ)) → length (list_at k lists) ≤ length (concat lists)
 length_at k [] = omega arith
@@ -39,20 +34,8 @@ only_owner p k [] few there = absurd (omega (arith, there))
 only_owner p zero (xs ∷ lists) few there = rw (in_from_count p xs there) refl
 only_owner p (suc k) (xs ∷ lists) few there =
     elim (in_or_not p xs) [
-      | inl w ↦ absurd (omega (arith, count-append p xs (concat lists), count_at p k lists, w.1, there, few))
+      | inl w ↦ absurd (omega (arith, count-append p xs (concat lists), count-list_at p k lists, w.1, there, few))
       | inr w ↦ rw w.0 (ap (λ (n : ℕ). suc n) (only_owner p k lists (omega (arith, count-append p xs (concat lists), few)) there))
-    ]
-
--- what stands in a list of the table is a page of it
-pub page_at_most : (t : Table) (q : ℕ) → IsPartition t → 1 ≤ count q (concat t.lists) → (1 ≤ q) × (q ≤ t.pages)
-page_at_most t q each some =
-    elim (cases_lt q 1) [
-      | inl below ↦ let none : count q (concat t.lists) ≡ 0 = rw (and_left (nat_le 1 q) (nat_le q t.pages) (lt-leb 1 q below)) at (each q) in absurd (omega (arith, some, none))
-      | inr low ↦
-          elim (cases_lt t.pages q) [
-            | inl above ↦ let none : count q (concat t.lists) ≡ 0 = rw (and_right (nat_le 1 q) (nat_le q t.pages) (lt-leb q t.pages above)) at (each q) in absurd (omega (arith, some, none))
-            | inr high ↦ (low, high)
-          ]
     ]
 
 -- lists that hold each page once at most, and the links along them
@@ -86,14 +69,14 @@ holds r t s = record {
 pub no_zero : (r : State) (n l : ℕ) (lists : List (List ℕ)) → Holds r n lists → count 0 (list_at l lists) ≡ 0
 no_zero r n l lists h =
     elim (in_or_not 0 (list_at l lists)) [
-      | inl w ↦ absurd (omega (arith, (h.inside 0 (omega (arith, w.1, count_at 0 l lists))).0))
+      | inl w ↦ absurd (omega (arith, (h.inside 0 (omega (arith, w.1, count-list_at 0 l lists))).0))
       | inr w ↦ w.1
     ]
 
 -- a neighbour in a list is 0 or a page
 pub few_step : (r : State) (n l q : ℕ) (lists : List (List ℕ)) → Holds r n lists → (q ≡ 0) ⊎ (1 ≤ count q (list_at l lists)) → q < length r.links
 few_step r n l q lists h (inl e) = omega (arith, e, h.size)
-few_step r n l q lists h (inr some) = omega (arith, (h.inside q (omega (arith, some, count_at q l lists))).1, h.size)
+few_step r n l q lists h (inr some) = omega (arith, (h.inside q (omega (arith, some, count-list_at q l lists))).1, h.size)
 
 -- what each list is, read along the links
 spelled_at : (r : State) (l : ℕ) (xs : List ℕ) → IsLinked r l xs → length xs ≡ (ends_at r l).len → spelled r (ends_at r l) ≡ xs
@@ -145,7 +128,7 @@ link_after r t p s low high =
     by_next None is e = rw e refl
     by_next (Some q) is e =
         let some = after_there p q (list_at (owner p t.lists) t.lists) is in
-        rw (e, not_zero q (page_at_most t q s.each (omega (arith, some, count_at q (owner p t.lists) t.lists))).0) refl
+        rw (e, not_zero q (page_at_most t q s.each (omega (arith, some, count-list_at q (owner p t.lists) t.lists))).0) refl
 
 -- the first page of a list
 pub first_is : (r : State) (t : Table) (l : ℕ) → Spells r t → some_page (ends_at r l).first ≡ slice_get (list_at l t.lists) 0
@@ -158,5 +141,5 @@ first_is r t l s = by_list (list_at l t.lists) refl
     by_list (y ∷ ys) e =
         let one : (ends_at r l).first ≡ y = (subst (λ (xs : List ℕ). IsLinked r l xs) e (s.linked l) 0 y (inl (refl, refl))).0 in
         let some : 1 ≤ count y (list_at l t.lists) = rw e (elim (eqb_tells y y) [ inl w ↦ rw w.0 (omega arith) | inr w ↦ absurd (w.1 refl) ]) in
-        let page : (y == 0) ≡ false = not_zero y (page_at_most t y s.each (omega (arith, some, count_at y l t.lists))).0 in
+        let page : (y == 0) ≡ false = not_zero y (page_at_most t y s.each (omega (arith, some, count-list_at y l t.lists))).0 in
         rw (one, page) refl

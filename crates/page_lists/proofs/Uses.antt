@@ -1,13 +1,13 @@
 -- Moves of pages out of list 0, one after another: which pages stay there, and which list has the others.
-use Rattle.std.proofs.Common.{◌≡◌, ◌≢◌, ℕ, zero, suc, ◌+◌, ◌<◌, ◌≤◌, true, false, ◌==◌, nat_le, List, [], ◌∷◌, ◌++◌, length, map, refl, sym, ap, ◌∙◌, subst, inl, inr, arith}
-use Rattle.std.proofs.lemmas.Bool.{false≢true, cases_lt, and_from, and_left, and_right, le-leb, lt-leb, ne_eqb}
+use Rattle.std.proofs.Common.{◌≡◌, ◌≢◌, ℕ, zero, suc, ◌+◌, ◌<◌, ◌≤◌, Bool, true, false, if◌then◌else◌, ◌==◌, nat_le, List, [], ◌∷◌, ◌++◌, length, map, refl, sym, ap, ◌∙◌, subst, inl, inr, arith}
+use Rattle.std.proofs.lemmas.Bool.{cases_Bool, false≢true, and_from, le-leb, ne_eqb}
 use Rattle.std.proofs.lemmas.Bool.Decides.{eqb_tells}
 use Rattle.std.proofs.lemmas.List.{append_assoc, append-nil, length-map, get_or-set_same, get_or-set_other}
 use Rattle.std.specs.List.{concat}
 use Rattle.page_lists.specs.Lists.{IsPartOf, is_in, count, without, minus}
 use Rattle.page_lists.specs.Table.{Table, IsPartition, Moves, is_page, list_at, unused, owner, moved_in, moved, all_moved}
 use Rattle.page_lists.proofs.Counts.{in_or_not, in_part, in_head, count_in, not_in_from_count, without_not_in, count-append, count-minus, part_append, part_none, part_one, part_rest}
-use Rattle.page_lists.proofs.Moves.{IsPartition-moved, length-moved, list_at_out, owner-moved-other, stands_once}
+use Rattle.page_lists.proofs.Moves.{IsPartition-moved, length-moved, list_at_out, owner-moved-other, page_bounds, stands_once}
 
 -- List 0 loses the page that moves to another list.
 pub unused-moved : (p l : ℕ) (t : Table) → 1 ≤ l → unused (moved p l t) ≡ without p (unused t)
@@ -43,18 +43,17 @@ count_two q k [] over = omega arith
 count_two q zero (xs ∷ lists) over = absurd (omega (arith, over))
 count_two q (suc k) (xs ∷ lists) over = omega (arith, count-append q xs (concat lists), count-list_at q k lists)
 
--- what stands in list 0 is a page of the file
-pub unused_page : (t : Table) (q : ℕ) → IsPartition t → is_in q (unused t) ≡ true → (1 ≤ q) × (q ≤ t.pages)
-unused_page t q each there =
-    let some : 1 ≤ count q (concat t.lists) = omega (arith, count_in q (unused t) there, count-list_at q 0 t.lists) in
-    elim (cases_lt q 1) [
-      | inl below ↦ let none : count q (concat t.lists) ≡ 0 = rw (and_left (nat_le 1 q) (nat_le q t.pages) (lt-leb 1 q below)) at (each q) in absurd (omega (arith, some, none))
-      | inr low ↦
-          elim (cases_lt t.pages q) [
-            | inl above ↦ let none : count q (concat t.lists) ≡ 0 = rw (and_right (nat_le 1 q) (nat_le q t.pages) (lt-leb q t.pages above)) at (each q) in absurd (omega (arith, some, none))
-            | inr high ↦ (low, high)
-          ]
+-- what stands in a list of the table is a page of the file
+pub page_at_most : (t : Table) (q : ℕ) → IsPartition t → 1 ≤ count q (concat t.lists) → (1 ≤ q) × (q ≤ t.pages)
+page_at_most t q each some =
+    elim (cases_Bool (is_page t.pages q)) [
+      | inl is ↦ page_bounds t.pages q is
+      | inr isnt ↦ absurd (omega (arith, some, each q, ap {B = ℕ} (λ (b : Bool). if b then 1 else 0) isnt))
     ]
+
+-- so is what stands in list 0
+pub unused_page : (t : Table) (q : ℕ) → IsPartition t → is_in q (unused t) ≡ true → (1 ≤ q) × (q ≤ t.pages)
+unused_page t q each there = page_at_most t q each (omega (arith, count_in q (unused t) there, count-list_at q 0 t.lists))
 
 pub unused_not_page : (t : Table) (q : ℕ) → IsPartition t → is_page t.pages q ≡ false → is_in q (unused t) ≡ false
 unused_not_page t q each other =

@@ -4,9 +4,11 @@ use Rattle.std.specs.Prelude.{IfSome}
 use Rattle.std.proofs.lemmas.Grind.{flat_map-append}
 use Rattle.std.proofs.lemmas.List.{append_cancel_left, map-append, take-append-drop}
 use Rattle.std.proofs.Math.Seq.{take-length}
+use Rattle.std.proofs.lemmas.Option.{IfSome_then}
 use Rattle.page_access.specs.declared.geometry.Geometry.{Geometry}
 use Rattle.page_access.specs.Files.{file_of}
 use Rattle.page_access.specs.Pages.{page_at}
+use Rattle.page_access.proofs.Told.{always_told, both_told}
 use Rattle.page_lists.specs.Lists.{minus}
 use Rattle.page_lists.specs.Table.{MovesFront, Table, all_moved, unused}
 use Rattle.page_lists.proofs.Uses.{all_moved-append}
@@ -27,7 +29,7 @@ use Rattle.page_walk.specs.Cells.{Outcome, Row, chain_of, chains_of, entry_at, m
 use Rattle.page_walk.specs.Page.{screened_as, shape_on}
 use Rattle.page_walk.specs.Rows.{AddsFront, GainsFront, rows_of, taken_in}
 use Rattle.page_walk.proofs.Chains.{entry_chain}
-use Rattle.page_walk.proofs.Going.{Going, always_told, both_told, one_told, to_come}
+use Rattle.page_walk.proofs.Going.{Going, to_come}
 use Rattle.page_walk.proofs.Names.{marked_step}
 use Rattle.page_walk.proofs.Sorting.{rows_seen}
 
@@ -44,8 +46,10 @@ pub rest_front : (o : Option (List ℕ)) (geo : Geometry) (v : CellView) (first 
     → IfSome o (λ all. TurnsFront (file_of all geo) first need old new pages pages' to to')
     → IfSome o (λ all. MovesFront (turn_from (file_of all geo) (missing v) v.overflow (unused old)) OVERFLOW_LIST old new)
 rest_front o geo v first need old new pages pages' to to' is same =
-    one_told (λ all. TurnsFront (file_of all geo) first need old new pages pages' to to')
-    (λ all. MovesFront (turn_from (file_of all geo) (missing v) v.overflow (unused old)) OVERFLOW_LIST old new) o
+    λ known. IfSome_then o
+    {P = λ all. TurnsFront (file_of all geo) first need old new pages pages' to to'}
+    {Q = λ all. MovesFront (turn_from (file_of all geo) (missing v) v.overflow (unused old)) OVERFLOW_LIST old new}
+    known
     (λ all t.
     subst (λ (q : Option ℕ). MovesFront (turn_from (file_of all geo) (missing v) q (unused old)) OVERFLOW_LIST old new) (sym is)
     (subst (λ (n : ℕ). MovesFront (turn_of (file_of all geo) first n (unused old)) OVERFLOW_LIST old new) same t.moved))
@@ -56,8 +60,10 @@ pub cell_front : (o : Option (List ℕ)) (geo : Geometry) (page : List ℕ) (p i
     → IfSome o (λ all. MovesFront (turn_from (file_of all geo) (missing v) v.overflow (unused old)) l old new)
     → IfSome o (λ all. MovesFront (chains_of (outcome_at (file_of all geo) page p payload i cell (unused old))) l old new)
 cell_front o geo page p i l payload cell v old new is pay =
-    one_told (λ all. MovesFront (turn_from (file_of all geo) (missing v) v.overflow (unused old)) l old new)
-    (λ all. MovesFront (chains_of (outcome_at (file_of all geo) page p payload i cell (unused old))) l old new) o
+    λ known. IfSome_then o
+    {P = λ all. MovesFront (turn_from (file_of all geo) (missing v) v.overflow (unused old)) l old new}
+    {Q = λ all. MovesFront (chains_of (outcome_at (file_of all geo) page p payload i cell (unused old))) l old new}
+    known
     (λ all m.
     let f = file_of all geo in
     subst (λ (c : Result CellView CellCause). MovesFront (chains_of (outcome_at f page p payload i c (unused old))) l old new) (sym is)
@@ -93,38 +99,44 @@ module _ {S : Type 0} {told attached : S → Option (List ℕ)} {faults reads : 
   going_parts : IfSome (told src0) (λ all. map outcome_of was.more ++ to_come all geo bytes shape page i marks (unused new)
       ≡ outcomes_in (file_of all geo) bytes page shape (unused old))
   going_parts =
-      one_told (λ all. map outcome_of now ++ to_come all geo bytes shape page i marks (unused new)
-      ≡ map outcome_of before ++ outcomes_in (file_of all geo) bytes page shape (unused old))
-      (λ all. map outcome_of was.more ++ to_come all geo bytes shape page i marks (unused new)
-      ≡ outcomes_in (file_of all geo) bytes page shape (unused old)) (told src0)
+      IfSome_then (told src0)
+      {P = λ all. map outcome_of now ++ to_come all geo bytes shape page i marks (unused new)
+      ≡ map outcome_of before ++ outcomes_in (file_of all geo) bytes page shape (unused old)}
+      {Q = λ all. map outcome_of was.more ++ to_come all geo bytes shape page i marks (unused new)
+      ≡ outcomes_in (file_of all geo) bytes page shape (unused old)}
+      was.rest
       (λ all r.
       let rest : List Outcome = to_come all geo bytes shape page i marks (unused new) in
       append_cancel_left (map outcome_of before) (map outcome_of was.more ++ rest) (outcomes_in (file_of all geo) bytes page shape (unused old))
       (sym (append_assoc (map outcome_of before) (map outcome_of was.more) rest)
       ∙ ap (λ (xs : List Outcome). xs ++ rest) (sym (map-append outcome_of before was.more) ∙ sym (ap (map outcome_of) was.all))
-      ∙ r)) was.rest
+      ∙ r))
 
   -- a front of the page's outcomes is there
   pub going_front : (now' : List CellOutcome) → now' ≡ now
       → IfSome (told src0) (λ all. AddsFront (outcomes_in (file_of all geo) bytes page shape (unused old)) (map outcome_of before) (map outcome_of now'))
   going_front now' same =
-      one_told (λ all. map outcome_of was.more ++ to_come all geo bytes shape page i marks (unused new)
-      ≡ outcomes_in (file_of all geo) bytes page shape (unused old))
-      (λ all. AddsFront (outcomes_in (file_of all geo) bytes page shape (unused old)) (map outcome_of before) (map outcome_of now')) (told src0)
+      IfSome_then (told src0)
+      {P = λ all. map outcome_of was.more ++ to_come all geo bytes shape page i marks (unused new)
+      ≡ outcomes_in (file_of all geo) bytes page shape (unused old)}
+      {Q = λ all. AddsFront (outcomes_in (file_of all geo) bytes page shape (unused old)) (map outcome_of before) (map outcome_of now')}
+      going_parts
       (λ all e. (
         length (map outcome_of was.more),
         ap (map outcome_of) (same ∙ was.all)
             ∙ map-append outcome_of before was.more
             ∙ ap (λ (xs : List Outcome). map outcome_of before ++ xs) (front_is (map outcome_of was.more) (to_come all geo bytes shape page i marks (unused new))
             (outcomes_in (file_of all geo) bytes page shape (unused old)) e),
-      )) going_parts
+      ))
 
   -- and a front of the pages that they take has moved
   pub going_table : IfSome (told src0) (λ all. MovesFront (chains_of (outcomes_in (file_of all geo) bytes page shape (unused old))) OVERFLOW_LIST old new)
   going_table =
-      one_told (λ all. map outcome_of was.more ++ to_come all geo bytes shape page i marks (unused new)
-      ≡ outcomes_in (file_of all geo) bytes page shape (unused old))
-      (λ all. MovesFront (chains_of (outcomes_in (file_of all geo) bytes page shape (unused old))) OVERFLOW_LIST old new) (told src0)
+      IfSome_then (told src0)
+      {P = λ all. map outcome_of was.more ++ to_come all geo bytes shape page i marks (unused new)
+      ≡ outcomes_in (file_of all geo) bytes page shape (unused old)}
+      {Q = λ all. MovesFront (chains_of (outcomes_in (file_of all geo) bytes page shape (unused old))) OVERFLOW_LIST old new}
+      going_parts
       (λ all e.
       let rest : List Outcome = to_come all geo bytes shape page i marks (unused new) in (
         length (chains_of (map outcome_of was.more)),
@@ -132,7 +144,7 @@ module _ {S : Type 0} {told attached : S → Option (List ℕ)} {faults reads : 
             ∙ ap (λ (ps : List ℕ). all_moved ps OVERFLOW_LIST old) (front_is (chains_of (map outcome_of was.more)) (chains_of rest)
             (chains_of (outcomes_in (file_of all geo) bytes page shape (unused old)))
             (sym (flat_map-append chain_of (map outcome_of was.more) rest) ∙ ap chains_of e)),
-      )) going_parts
+      ))
 
   -- the same where the next cell took a front of its own pages
   pub going_table_more : (new' : Table) (cell : Result CellView CellCause) → i < shape.cells
@@ -185,8 +197,10 @@ pub rows_front : (o : Option (List ℕ)) (outs : List ℕ → List Outcome) (non
     → IfSome o (λ all. map outcome_of os ≡ map outcome_of none ++ outs all) → GainsFront (taken_in os) old new
     → IfSome o (λ all. AddsFront (rows_of (outs all)) (map row_of old) (map row_of new))
 rows_front o outs none os old new empty value gains =
-    one_told (λ all. map outcome_of os ≡ map outcome_of none ++ outs all)
-    (λ all. AddsFront (rows_of (outs all)) (map row_of old) (map row_of new)) o
+    IfSome_then o
+    {P = λ all. map outcome_of os ≡ map outcome_of none ++ outs all}
+    {Q = λ all. AddsFront (rows_of (outs all)) (map row_of old) (map row_of new)}
+    value
     (λ all e.
     let same : map outcome_of os ≡ outs all = e ∙ ap (λ (xs : List CellOutcome). map outcome_of xs ++ outs all) empty in
     let parts : map row_of gains.front ++ map row_of gains.rest ≡ rows_of (outs all) =
@@ -196,4 +210,3 @@ rows_front o outs none os old new empty value gains =
           ∙ map-append row_of old gains.front
           ∙ ap (λ (rs : List Row). map row_of old ++ rs) (front_is (map row_of gains.front) (map row_of gains.rest) (rows_of (outs all)) parts),
     ))
-    value

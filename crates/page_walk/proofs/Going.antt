@@ -4,11 +4,13 @@ use Rattle.std.specs.Prelude.{option_to_list, IfSome, Result}
 use Rattle.std.specs.List.{AllByRecursion}
 use Rattle.std.proofs.lemmas.Grind.{flat_map-append}
 use Rattle.std.proofs.lemmas.List.{length-replicate, map-append}
+use Rattle.std.proofs.lemmas.Option.{IfSome_then}
 use Rattle.page_access.specs.declared.geometry.Geometry.{Geometry}
 use Rattle.page_access.specs.Files.{IsWhole, file_of}
 use Rattle.page_access.specs.Outside.{KeepsSource}
 use Rattle.page_access.specs.Pages.{File}
 use Rattle.page_access.proofs.Keeps.{Passed, passed_more, passed_none}
+use Rattle.page_access.proofs.Told.{always_told, both_told}
 use Rattle.page_lists.specs.Lists.{minus}
 use Rattle.page_lists.specs.Table.{Table, Moves, all_moved, unused}
 use Rattle.page_lists.proofs.Uses.{unused-all_moved, all_moved-append, Moves-none, Moves-append}
@@ -49,20 +51,6 @@ pub record Going {S : Type 0} (told attached : S → Option (List ℕ)) (faults 
   pub table : new ≡ all_moved (chains_of (map outcome_of more)) OVERFLOW_LIST old
   pub rest : IfSome (told src0) (λ all. map outcome_of now ++ to_come all geo bytes shape page i marks (unused new)
       ≡ map outcome_of before ++ outcomes_in (file_of all geo) bytes page shape (unused old))
-
--- two facts of told bytes make a third
-pub both_told : (P Q R : List ℕ → Type 0) (o o' : Option (List ℕ)) → o' ≡ o → ((all : List ℕ) → P all → Q all → R all)
-    → IfSome o P → IfSome o' Q → IfSome o R
-both_told P Q R None o' e f p q = tt
-both_told P Q R (Some all) o' e f p q = f all p (subst (λ (x : Option (List ℕ)). IfSome x Q) e q)
-
-pub always_told : (R : List ℕ → Type 0) (o : Option (List ℕ)) → ((all : List ℕ) → R all) → IfSome o R
-always_told R None f = tt
-always_told R (Some all) f = f all
-
-pub one_told : (P R : List ℕ → Type 0) (o : Option (List ℕ)) → ((all : List ℕ) → P all → R all) → IfSome o P → IfSome o R
-one_told P R None f p = tt
-one_told P R (Some all) f p = f all p
 
 pub all_append : {X : Type 0} (P : X → Type 0) (xs ys : List X) → AllByRecursion P xs → AllByRecursion P ys → AllByRecursion P (xs ++ ys)
 all_append P [] ys h k = k
@@ -178,13 +166,14 @@ pub going_value : {S : Type 0} {told attached : S → Option (List ℕ)} {faults
 going_value {told = told} {geo = geo} {bytes} {shape} {page} {src0} {src} {old} {new} {before} {now} {i} {marks} was le =
     let none : marked_from (cell_of bytes geo.usable geo.pages shape) (shape.cells - i) i marks ≡ [] =
     marked_end (cell_of bytes geo.usable geo.pages shape) shape.cells i marks le in
-    one_told (λ all. map outcome_of now ++ to_come all geo bytes shape page i marks (unused new)
-    ≡ map outcome_of before ++ outcomes_in (file_of all geo) bytes page shape (unused old))
-    (λ all. map outcome_of now ≡ map outcome_of before ++ outcomes_in (file_of all geo) bytes page shape (unused old)) (told src0)
+    IfSome_then (told src0)
+    {P = λ all. map outcome_of now ++ to_come all geo bytes shape page i marks (unused new)
+    ≡ map outcome_of before ++ outcomes_in (file_of all geo) bytes page shape (unused old)}
+    {Q = λ all. map outcome_of now ≡ map outcome_of before ++ outcomes_in (file_of all geo) bytes page shape (unused old)}
+    was.rest
     (λ all p. sym (append-nil (map outcome_of now))
     ∙ ap (λ (vs : List Verdict). map outcome_of now ++ outcomes_from (file_of all geo) bytes page (has_payload shape.kind shape.leaf) i vs (unused new)) (sym none)
     ∙ p)
-    was.rest
 
 pub going_used : {S : Type 0} {told attached : S → Option (List ℕ)} {faults reads : S → ℕ} {geo : Geometry} {bytes : List ℕ}
     {shape : PageShape} {page : ℕ} {src0 src : S} {old new : Table} {before now : List CellOutcome} {i : ℕ} {marks : List Bool}

@@ -4,6 +4,7 @@ use Rattle.std.specs.Prelude.{if◌then◌else◌, Err, IfSome, IsErr, Ok, Resul
 use Rattle.std.specs.List.{AllByRecursion, flat_map}
 use Rattle.std.proofs.lemmas.Grind.{flat_map-append}
 use Rattle.std.proofs.lemmas.List.{length-map}
+use Rattle.std.proofs.lemmas.Option.{IfSome_then}
 use Rattle.page_access.specs.declared.geometry.Geometry.{Geometry}
 use Rattle.page_access.specs.declared.outside.Source as source
 use Rattle.page_access.specs.Cache.{Cache, HasAll, IsCacheOf}
@@ -12,6 +13,7 @@ use Rattle.page_access.specs.Outside.{KeepsSource}
 use Rattle.page_access.specs.Pages.{File}
 use Rattle.page_access.proofs.Caching.{cached_at}
 use Rattle.page_access.proofs.Keeps.{Passed, passed_more, passed_none}
+use Rattle.page_access.proofs.Told.{always_told, both_told}
 use Rattle.page_lists.specs.Lists.{IsPartOf, minus}
 use Rattle.page_lists.specs.Table.{Table, Moves, MovesFront, all_moved, unused}
 use Rattle.page_lists.proofs.Counts.{minus-append, part_append, part_none}
@@ -22,7 +24,7 @@ use Rattle.page_walk.specs.Cells.{chains_of, outcome_of, outcomes_on}
 use Rattle.page_walk.specs.InTurn.{IsSmallTurn, in_turn, pages_of_turn}
 use Rattle.page_walk.specs.Turns.{ReadsEach, chains_on, left_by, turns_on}
 use Rattle.page_walk.proofs.Fronts.{front_all, then_front}
-use Rattle.page_walk.proofs.Going.{all_append, always_told, both_told, one_told}
+use Rattle.page_walk.proofs.Going.{all_append}
 
 -- steps over some items, and then over more
 pub in_turn-append : {A X : Type 0} (give : A → List ℕ → X) (taken : X → List ℕ) (xs ys : List A) (unused : List ℕ)
@@ -94,8 +96,9 @@ reads_more o o' geo a b c i j k m n same first next =
 -- fewer reads than are allowed
 pub reads_weaker : (o : Option (List ℕ)) (geo : Geometry) (a b : Table) (i j m n : ℕ) → m ≤ n → ReadsEach o geo a b i j m → ReadsEach o geo a b i j n
 reads_weaker o geo a b i j m n le read =
-    one_told (λ all. IsWhole all geo → j + length (unused b) ≤ i + length (unused a) + m)
-    (λ all. IsWhole all geo → j + length (unused b) ≤ i + length (unused a) + n) o (λ all p whole. omega (arith, p whole, le)) read
+    IfSome_then o
+    {P = λ all. IsWhole all geo → j + length (unused b) ≤ i + length (unused a) + m}
+    {Q = λ all. IsWhole all geo → j + length (unused b) ≤ i + length (unused a) + n} read (λ all p whole. omega (arith, p whole, le))
 
 -- what is claimed of an error
 pub at_err : {T E : Type 0} (P : ℕ → Type 0) (r : Result T E) (m n : ℕ) → IsErr r → P n → P (if is_ok r then m else n)
@@ -177,9 +180,11 @@ stepping_more {S} {A} {X} {s = s} {geo} {k} {xs} {left} {first} {now} {done} now
 pub stepping_value : {S A X : Type 0} {s : source.Ghosts S} {geo : Geometry} {k : Steps A X} {xs left : List A} {first now : Moment S} {done : List X}
     → Stepping s geo k xs left first now done → left ≡ [] → IfSome (s.bytes first.src) (λ all. done ≡ in_turn (k.give all) k.taken xs (unused first.table))
 stepping_value {A = A} {X} {s} {k = k} {xs} {left} {first} {now} {done} was end =
-    one_told (λ all. done ++ in_turn (k.give all) k.taken left (unused now.table) ≡ in_turn (k.give all) k.taken xs (unused first.table))
-    (λ all. done ≡ in_turn (k.give all) k.taken xs (unused first.table)) (s.bytes first.src)
-    (λ all p. sym (append-nil done) ∙ ap (λ (ys : List A). done ++ in_turn (k.give all) k.taken ys (unused now.table)) (sym end) ∙ p) was.value
+    IfSome_then (s.bytes first.src)
+    {P = λ all. done ++ in_turn (k.give all) k.taken left (unused now.table) ≡ in_turn (k.give all) k.taken xs (unused first.table)}
+    {Q = λ all. done ≡ in_turn (k.give all) k.taken xs (unused first.table)}
+    was.value
+    (λ all p. sym (append-nil done) ∙ ap (λ (ys : List A). done ++ in_turn (k.give all) k.taken ys (unused now.table)) (sym end) ∙ p)
 
 -- the reads where a step ends the loop
 pub stepping_reads : {S A X : Type 0} {s : source.Ghosts S} {geo : Geometry} {k : Steps A X} {xs left : List A} {first now : Moment S} {done : List X}
@@ -229,10 +234,12 @@ pub stepping_front_all : {S A X : Type 0} {s : source.Ghosts S} {geo : Geometry}
     → Stepping s geo k xs left first now done → left ≡ []
     → IfSome (s.bytes first.src) (λ all. MovesFront (taken_in_turn k xs (unused first.table) all) k.list first.table now.table)
 stepping_front_all {X = X} {s} {k = k} {xs} {left} {first} {now} {done} was end =
-    one_told (λ all. done ≡ in_turn (k.give all) k.taken xs (unused first.table))
-    (λ all. MovesFront (taken_in_turn k xs (unused first.table) all) k.list first.table now.table) (s.bytes first.src)
+    IfSome_then (s.bytes first.src)
+    {P = λ all. done ≡ in_turn (k.give all) k.taken xs (unused first.table)}
+    {Q = λ all. MovesFront (taken_in_turn k xs (unused first.table) all) k.list first.table now.table}
+    (stepping_value was end)
     (λ all e. front_all (taken_in_turn k xs (unused first.table) all) k.list first.table now.table
-    (was.moved ∙ ap (λ (zs : List X). all_moved (flat_map k.taken zs) k.list first.table) e)) (stepping_value was end)
+    (was.moved ∙ ap (λ (zs : List X). all_moved (flat_map k.taken zs) k.list first.table) e))
 
 all_mapped : {X Y : Type 0} (P : Y → Type 0) (f : X → Y) (xs : List X) → AllByRecursion (λ x. P (f x)) xs → AllByRecursion P (map f xs)
 all_mapped P f [] all = tt
@@ -261,6 +268,8 @@ pub chains_front : (o : Option (List ℕ)) (geo : Geometry) (ps : List ℕ) (l :
     → IfSome o (λ all. MovesFront (flat_map pages_of_turn (turns_on (file_of all geo) ps (unused old))) l old new)
     → IfSome o (λ all. MovesFront (chains_on (file_of all geo) ps (unused old)) l old new)
 chains_front o geo ps l old new =
-    one_told (λ all. MovesFront (flat_map pages_of_turn (turns_on (file_of all geo) ps (unused old))) l old new)
-    (λ all. MovesFront (chains_on (file_of all geo) ps (unused old)) l old new) o
+    λ known. IfSome_then o
+    {P = λ all. MovesFront (flat_map pages_of_turn (turns_on (file_of all geo) ps (unused old))) l old new}
+    {Q = λ all. MovesFront (chains_on (file_of all geo) ps (unused old)) l old new}
+    known
     (λ all m. subst (λ (qs : List ℕ). MovesFront qs l old new) (chains_are (file_of all geo) ps (unused old)) m)

@@ -3,16 +3,17 @@ use Rattle.std.proofs.Common.{◌≡◌, ◌<◌, ◌≤◌, ℕ, ◌+◌, Optio
 use Rattle.std.proofs.lemmas.List.FromFn.{map-range_with_len_more}
 use Rattle.std.specs.List.{range_with_len}
 use Rattle.std.specs.Prelude.{option_map, IfSome}
+use Rattle.std.proofs.lemmas.Option.{IfSome_then}
 use Rattle.page_access.specs.declared.geometry.Geometry.{Geometry}
 use Rattle.page_access.specs.Files.{IsWhole, file_of}
 use Rattle.page_access.specs.Outside.{KeepsSource}
 use Rattle.page_access.specs.Pages.{page_of}
 use Rattle.page_access.proofs.Keeps.{Passed, passed_more}
+use Rattle.page_access.proofs.Told.{both_told}
 use Rattle.cell_reader.specs.declared.shapes.Kind.{Kind}
 use Rattle.cell_reader.specs.declared.shapes.PageShape.{PageShape}
 use Rattle.cell_reader.specs.Shape.{shape_of}
 use Rattle.page_walk.specs.Walk.{kind_on, kinds_of}
-use Rattle.page_walk.proofs.Going.{both_told, one_told}
 
 -- what the loop keeps: the kinds of the first i pages are noted, with one read for each
 pub record Surveying {S : Type 0} (told attached : S → Option (List ℕ)) (faults reads : S → ℕ) (geo : Geometry)
@@ -57,5 +58,6 @@ pub surveying_kinds : {S : Type 0} {told attached : S → Option (List ℕ)} {fa
     → IfSome (told src0) (λ all. kinds ≡ kinds_of (file_of all geo))
 unfolding kinds_of
 surveying_kinds {told = told} {geo = geo} {src0} {kinds = kinds} {i} was end =
-    one_told (λ all. kinds ≡ map (kind_on (file_of all geo)) (range_with_len 1 i)) (λ all. kinds ≡ kinds_of (file_of all geo)) (told src0)
-    (λ all p. p ∙ ap (λ (n : ℕ). map (kind_on (file_of all geo)) (range_with_len 1 n)) end) was.noted
+    IfSome_then (told src0) {P = λ all. kinds ≡ map (kind_on (file_of all geo)) (range_with_len 1 i)} {Q = λ all. kinds ≡ kinds_of (file_of all geo)}
+    was.noted
+    (λ all p. p ∙ ap (λ (n : ℕ). map (kind_on (file_of all geo)) (range_with_len 1 n)) end)

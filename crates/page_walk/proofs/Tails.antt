@@ -10,7 +10,8 @@ use Rattle.page_lists.specs.Lists.{after, count}
 use Rattle.page_lists.specs.Table.{Table, IsPartition, is_page, list_at, owner}
 use Rattle.page_lists.proofs.Counts.{count-append}
 use Rattle.page_lists.proofs.Moves.{stands_once}
-use Rattle.page_lists.proofs.Spelled.{count_at, only_owner, owner_has, page_at_most}
+use Rattle.page_lists.proofs.Spelled.{only_owner, owner_has}
+use Rattle.page_lists.proofs.Uses.{count-list_at, page_at_most}
 use Rattle.page_walk.specs.Taking.{tail}
 
 -- no page stands twice in a table
@@ -109,8 +110,8 @@ pub stands : (t : Table) (l p : ℕ) (front xs : List ℕ) (i : ℕ) → IsParti
 stands t l p front xs i each is e =
     let here : 1 ≤ count p (list_at l t.lists) = omega (arith, ap (count p) is, count-append p front xs, count_get xs i p e) in
     let once : count p (concat t.lists) ≤ 1 = at_most_once t p each in
-    let few : count p (front ++ xs) ≤ 1 = omega (arith, ap (count p) is, count_at p l t.lists, once) in
-    let page = page_at_most t p each (omega (arith, here, count_at p l t.lists)) in
+    let few : count p (front ++ xs) ≤ 1 = omega (arith, ap (count p) is, count-list_at p l t.lists, once) in
+    let page = page_at_most t p each (omega (arith, here, count-list_at p l t.lists)) in
     let owned : l ≡ owner p t.lists = only_owner p l t.lists once here in
     let seen : list_with p t ≡ front ++ xs = ap (λ (k : ℕ). list_at k t.lists) (sym owned) ∙ is in
     record {

@@ -6,7 +6,7 @@ use Rattle.std.proofs.lemmas.Bool.Decides.{eqb_tells}
 use Rattle.page_access.specs.Pages.{File}
 use Rattle.page_lists.specs.Lists.{is_in, without}
 use Rattle.page_lists.specs.Table.{is_page}
-use Rattle.page_lists.proofs.Counts.{count-without, in_head, length-without, is_in-without-other}
+use Rattle.page_lists.proofs.Counts.{at_most_one, count-without, in_head, length-without, is_in-without-other}
 use Rattle.cell_reader.specs.declared.shapes.Kind.{Kind}
 use Rattle.cell_reader.specs.declared.shapes.Kind.TheVariants.{Table, Index}
 use Rattle.cell_reader.specs.declared.shapes.PageShape.{PageShape}
@@ -104,7 +104,7 @@ levels_are_reached f unused root each free = record {
   all = reach_in f unused root free;
   once = λ q.
       let more = levels_once (children f) (length unused) (without root unused) (root ∷ []) q in
-      omega (arith, more, count-without q root unused free, each q, at_most (is_page f.pages q));
+      omega (arith, more, count-without q root unused free, each q, at_most_one (is_page f.pages q));
 }
   where
     only : (q : ℕ) → is_in q (root ∷ []) ≡ true → Reach f unused root q
@@ -113,10 +113,6 @@ levels_are_reached f unused root each free = record {
           | inl w ↦ subst (Reach f unused root) w.1 start
           | inr w ↦ absurd (false≢true (rw w.0 at there))
         ]
-
-    at_most : (b : Bool) → (if b then 1 else 0) ≤ 1
-    at_most true = omega arith
-    at_most false = omega arith
 
 -- from a root a walk gives the levels from its page down
 pub walk_from_root : (f : File) (unused : List ℕ) (kind : Kind) (r : ℕ) → IsRoot f unused kind r

@@ -2,10 +2,12 @@
 use Rattle.std.proofs.Common.{◌≡◌, ◌<◌, ◌≤◌, ℕ, ◌+◌, Bool, Option, Some, None, List, [], ◌∷◌, ◌++◌, length, take, drop, slice_get, get_or, refl, sym, ◌∙◌, ap, subst, arith, length-append, length-drop}
 use Rattle.std.specs.List.{filter}
 use Rattle.std.specs.Prelude.{ℤ, option_to_list, IfSome, IsTrue}
+use Rattle.std.proofs.lemmas.Option.{IfSome_then}
 use Rattle.page_access.specs.declared.geometry.Geometry.{Geometry}
 use Rattle.page_access.specs.Files.{IsWhole, file_of}
 use Rattle.page_access.specs.Outside.{KeepsSource}
 use Rattle.page_access.proofs.Keeps.{Passed, passed_more, passed_none}
+use Rattle.page_access.proofs.Told.{always_told, both_told}
 use Rattle.page_lists.specs.Lists.{IsPartOf, after, firsts, minus}
 use Rattle.page_lists.specs.Table.{Table, IsPartition, Moves, MovesFront, all_moved, list_at, moved, unused}
 use Rattle.page_lists.proofs.Counts.{length-minus, part_append}
@@ -17,7 +19,6 @@ use Rattle.page_walk.specs.Taking.{is_of_kind, tail, takes}
 use Rattle.page_walk.specs.Turns.{ReadsEach}
 use Rattle.page_walk.specs.Walk.{kinds_of, page_named, walk}
 use Rattle.page_walk.proofs.Found.{Found, found_front, found_start, found_some, found_more, found_all}
-use Rattle.page_walk.proofs.Going.{always_told, both_told, one_told}
 use Rattle.page_walk.proofs.Tails.{Stands, get_append, get_none, get_some, list_with, stands}
 use Rattle.page_walk.proofs.Taking.{takes_part}
 use Rattle.page_walk.proofs.Trees.{walk_is_tree}
@@ -50,7 +51,8 @@ walking_found : (geo : Geometry) (kind : Kind) (root : ℤ) (o : Option (List �
     → found ≡ takes ks kind old (option_to_list (page_named old.pages root))
     → IfSome o (λ all. Found (file_of all geo) kind root (unused old) found 0)
 walking_found geo kind root o ks old found same surveyed taken =
-    one_told (λ all. ks ≡ kinds_of (file_of all geo)) (λ all. Found (file_of all geo) kind root (unused old) found 0) o
+    IfSome_then o {P = λ all. ks ≡ kinds_of (file_of all geo)} {Q = λ all. Found (file_of all geo) kind root (unused old) found 0}
+    surveyed
     (λ all is.
     let f = file_of all geo in
     let all_of : found ≡ firsts (unused old) (filter (is_of_kind (kinds_of f) geo.pages kind) (option_to_list (page_named geo.pages root))) =
@@ -58,7 +60,7 @@ walking_found geo kind root o ks old found same surveyed taken =
     ∙ ap (λ (k : List (Option Kind)). takes k kind old (option_to_list (page_named old.pages root))) is
     ∙ ap (λ (n : ℕ). firsts (unused old) (filter (is_of_kind (kinds_of f) n kind) (option_to_list (page_named n root)))) same in
     subst (λ (xs : List ℕ). Found f kind root (unused old) xs 0) (sym all_of)
-    (found_start f kind root (unused old) (page_named geo.pages root) refl)) surveyed
+    (found_start f kind root (unused old) (page_named geo.pages root) refl))
 
 -- the root has moved, if there is one
 pub walking_start : {S : Type 0} (told attached : S → Option (List ℕ)) (faults reads : S → ℕ) (geo : Geometry) (kind : Kind)
@@ -82,11 +84,12 @@ pub walk_begins : (geo : Geometry) (kind : Kind) (root asked : ℤ) (o : Option 
     → first ∷ [] ≡ takes ks kind old (option_to_list (page_named old.pages root)) → root ≡ asked
     → IfSome o (λ all. walk (file_of all geo) (unused old) asked kind ≡ [] → IsTrue b)
 walk_begins geo kind root asked o ks old first b same surveyed taken is =
-    one_told (λ all. Found (file_of all geo) kind root (unused old) (first ∷ []) 0)
-    (λ all. walk (file_of all geo) (unused old) asked kind ≡ [] → IsTrue b) o
+    IfSome_then o
+    {P = λ all. Found (file_of all geo) kind root (unused old) (first ∷ []) 0}
+    {Q = λ all. walk (file_of all geo) (unused old) asked kind ≡ [] → IsTrue b}
+    (walking_found geo kind root o ks old (first ∷ []) same surveyed taken)
     (λ all found none. absurd (found_some (file_of all geo) kind root (unused old) (first ∷ []) 0 first refl found
     (ap (λ (z : ℤ). walk (file_of all geo) (unused old) z kind) is ∙ none)))
-    (walking_found geo kind root o ks old (first ∷ []) same surveyed taken)
 
 -- where there is none, no page is walked
 pub no_walk : (geo : Geometry) (kind : Kind) (root asked : ℤ) (o : Option (List ℕ)) (ks : List (Option Kind)) (old : Table)
@@ -94,11 +97,12 @@ pub no_walk : (geo : Geometry) (kind : Kind) (root asked : ℤ) (o : Option (Lis
     → [] ≡ takes ks kind old (option_to_list (page_named old.pages root)) → root ≡ asked → none ≡ []
     → IfSome o (λ all. none ≡ walk (file_of all geo) (unused old) asked kind)
 no_walk geo kind root asked o ks old none same surveyed taken is empty =
-    one_told (λ all. Found (file_of all geo) kind root (unused old) [] 0)
-    (λ all. none ≡ walk (file_of all geo) (unused old) asked kind) o
+    IfSome_then o
+    {P = λ all. Found (file_of all geo) kind root (unused old) [] 0}
+    {Q = λ all. none ≡ walk (file_of all geo) (unused old) asked kind}
+    (walking_found geo kind root o ks old [] same surveyed taken)
     (λ all found. empty ∙ found_all (file_of all geo) kind root (unused old) [] 0 (omega arith) found
     ∙ ap (λ (z : ℤ). walk (file_of all geo) (unused old) z kind) is)
-    (walking_found geo kind root o ks old [] same surveyed taken)
 
 -- the pages found are moves of unused pages
 pub walking_moves : {S : Type 0} {told attached : S → Option (List ℕ)} {faults reads : S → ℕ} {geo : Geometry} {kind : Kind}
@@ -158,19 +162,22 @@ pub walking_value : {S : Type 0} {told attached : S → Option (List ℕ)} {faul
     → Walking told attached faults reads geo kind root l src0 src old new found at → length found ≤ at → root ≡ asked
     → IfSome (told src0) (λ all. found ≡ walk (file_of all geo) (unused old) asked kind)
 walking_value {told = told} {geo = geo} {kind} {root} {src0 = src0} {old = old} {found = found} {at} asked was end same =
-    one_told (λ all. Found (file_of all geo) kind root (unused old) found at)
-    (λ all. found ≡ walk (file_of all geo) (unused old) asked kind) (told src0)
+    IfSome_then (told src0)
+    {P = λ all. Found (file_of all geo) kind root (unused old) found at}
+    {Q = λ all. found ≡ walk (file_of all geo) (unused old) asked kind}
+    was.found_are
     (λ all is. found_all (file_of all geo) kind root (unused old) found at end is
     ∙ ap (λ (z : ℤ). walk (file_of all geo) (unused old) z kind) same)
-    was.found_are
 
 -- the pages of a walk are those of a tree
 pub walked_tree : (o : Option (List ℕ)) (geo : Geometry) (t : Table) (root : ℤ) (kind : Kind) (pages : List ℕ)
     → IsPartition t → t.pages ≡ geo.pages → IfSome o (λ all. pages ≡ walk (file_of all geo) (unused t) root kind)
     → IfSome o (λ all. IsTree (file_of all geo) (unused t) root kind pages)
 walked_tree o geo t root kind pages each same =
-    one_told (λ all. pages ≡ walk (file_of all geo) (unused t) root kind)
-    (λ all. IsTree (file_of all geo) (unused t) root kind pages) o
+    λ known. IfSome_then o
+    {P = λ all. pages ≡ walk (file_of all geo) (unused t) root kind}
+    {Q = λ all. IsTree (file_of all geo) (unused t) root kind pages}
+    known
     (λ all is. subst (IsTree (file_of all geo) (unused t) root kind) (sym is)
     (walk_is_tree (file_of all geo) (unused t) root kind (unused_once t geo.pages each same)))
 
@@ -351,11 +358,12 @@ pub queued_some : {S : Type 0} {told attached : S → Option (List ℕ)} {faults
     → Queued told attached faults reads geo kind root l src0 src old new first here → root ≡ asked
     → IfSome (told src0) (λ all. walk (file_of all geo) (unused old) asked kind ≡ [] → IsTrue b)
 queued_some {told = told} {geo = geo} {kind} {root} {src0 = src0} {old = old} {first = first} asked b was same =
-    one_told (λ all. Found (file_of all geo) kind root (unused old) was.found was.turns)
-    (λ all. walk (file_of all geo) (unused old) asked kind ≡ [] → IsTrue b) (told src0)
+    IfSome_then (told src0)
+    {P = λ all. Found (file_of all geo) kind root (unused old) was.found was.turns}
+    {Q = λ all. walk (file_of all geo) (unused old) asked kind ≡ [] → IsTrue b}
+    was.walking.found_are
     (λ all is none. absurd (found_some (file_of all geo) kind root (unused old) was.found was.turns first was.first_is is
     (ap (λ (z : ℤ). walk (file_of all geo) (unused old) z kind) same ∙ none)))
-    was.walking.found_are
 
 -- the pages that moved are a front of the walk
 pub queued_front : {S : Type 0} {told attached : S → Option (List ℕ)} {faults reads : S → ℕ} {geo : Geometry} {kind : Kind}
@@ -363,12 +371,13 @@ pub queued_front : {S : Type 0} {told attached : S → Option (List ℕ)} {fault
     → Queued told attached faults reads geo kind root l src0 src old new first here → root ≡ asked
     → IfSome (told src0) (λ all. MovesFront (walk (file_of all geo) (unused old) asked kind) l old new)
 queued_front {told = told} {geo = geo} {kind} {root} {l} {src0} {old = old} {new} asked was same =
-    one_told (λ all. Found (file_of all geo) kind root (unused old) was.found was.turns)
-    (λ all. MovesFront (walk (file_of all geo) (unused old) asked kind) l old new) (told src0)
+    IfSome_then (told src0)
+    {P = λ all. Found (file_of all geo) kind root (unused old) was.found was.turns}
+    {Q = λ all. MovesFront (walk (file_of all geo) (unused old) asked kind) l old new}
+    was.walking.found_are
     (λ all is. (
       length was.found,
       was.walking.table
           ∙ ap (λ (ps : List ℕ). all_moved ps l old) (found_front (file_of all geo) kind root (unused old) was.found was.turns is
           ∙ ap (λ (z : ℤ). take (length was.found) (walk (file_of all geo) (unused old) z kind)) same),
     ))
-    was.walking.found_are

@@ -1,16 +1,17 @@
 -- The pages of the schema's tree: the reads of them, and what is claimed of the pages that a walk gave.
 use Rattle.std.proofs.Common.{◌≡◌, ◌∙◌, ◌≤◌, ℕ, ◌+◌, ◌*◌, if◌then◌else◌, Option, Result, Ok, Err, IfOk, IsErr, is_ok, inl, inr, List, length, ap, subst, arith, length-append}
 use Rattle.std.specs.Prelude.{IfSome}
+use Rattle.std.proofs.lemmas.Option.{IfSome_then}
 use Rattle.page_access.specs.declared.geometry.Geometry.{Geometry}
 use Rattle.page_access.specs.Files.{IsWhole, file_of}
 use Rattle.page_access.specs.Pages.{File}
+use Rattle.page_access.proofs.Told.{always_told, both_told}
 use Rattle.page_lists.specs.Lists.{IsPartOf, minus}
 use Rattle.page_lists.specs.Table.{IsPartition, Table, Moves, MovesFront, all_moved, list_at, moved, unused}
 use Rattle.page_lists.proofs.Counts.{length-minus}
 use Rattle.page_lists.proofs.Uses.{list_at-all_moved, list_at-all_moved-other, unused-all_moved}
 use Rattle.overflow_chain.specs.declared.TheConstants.{OVERFLOW_LIST}
 use Rattle.page_walk.specs.Turns.{ReadsEach, chains_on}
-use Rattle.page_walk.proofs.Going.{always_told, both_told, one_told}
 use Rattle.page_walk.proofs.Walking.{moves_fewer}
 use Rattle.raw_schema.specs.Schema.{ReadsChains, ReadsTwice, SchemaFront, after_tree, schema_chains, schema_pages}
 use Rattle.raw_schema.specs.declared.TheConstants.{SCHEMA_LIST}
@@ -21,9 +22,11 @@ pub reads_at_err : {T E : Type 0} (r : Result T E) (told : Option (List ℕ)) (g
     → ReadsTwice told geo old new before now (if is_ok r then 0 else 1)
 reads_at_err (Ok x) told geo old new before now is moves read = absurd (cc)
 reads_at_err (Err e) told geo old new before now is moves read =
-    one_told (λ all. IsWhole all geo → now + length (unused new) ≤ before + length (unused old) + 1)
-    (λ all. IsWhole all geo → now + 2 * length (unused new) ≤ before + 2 * length (unused old) + 1) told
-    (λ all h whole. omega (arith, h whole, moves_fewer SCHEMA_LIST old new (omega arith) moves)) read
+    IfSome_then told
+    {P = λ all. IsWhole all geo → now + length (unused new) ≤ before + length (unused old) + 1}
+    {Q = λ all. IsWhole all geo → now + 2 * length (unused new) ≤ before + 2 * length (unused old) + 1}
+    read
+    (λ all h whole. omega (arith, h whole, moves_fewer SCHEMA_LIST old new (omega arith) moves))
 
 -- the reads of the walk, and then those of the pages that it gave
 pub reads_in_all : (told told' : Option (List ℕ)) (geo : Geometry) (pages : List ℕ) (old mid new : Table) (before at now more : ℕ)
@@ -70,8 +73,10 @@ pub front_of_tree : (o : Option (List ℕ)) (geo : Geometry) (old new : Table)
     → IfSome o (λ all. MovesFront (schema_pages (file_of all geo) (unused old)) SCHEMA_LIST old new)
     → IfSome o (λ all. SchemaFront (file_of all geo) old new)
 front_of_tree o geo old new =
-    one_told (λ all. MovesFront (schema_pages (file_of all geo) (unused old)) SCHEMA_LIST old new)
-    (λ all. SchemaFront (file_of all geo) old new) o (λ all m. inl m)
+    λ known. IfSome_then o
+    {P = λ all. MovesFront (schema_pages (file_of all geo) (unused old)) SCHEMA_LIST old new}
+    {Q = λ all. SchemaFront (file_of all geo) old new}
+    known (λ all m. inl m)
 
 -- or all of them, and a front of the overflow pages
 pub front_of_chains : (o o' : Option (List ℕ)) (geo : Geometry) (pages : List ℕ) (old mid new : Table) → o' ≡ o
@@ -79,9 +84,11 @@ pub front_of_chains : (o o' : Option (List ℕ)) (geo : Geometry) (pages : List 
     → IfSome o' (λ all. MovesFront (chains_on (file_of all geo) pages (unused mid)) OVERFLOW_LIST mid new)
     → IfSome o (λ all. SchemaFront (file_of all geo) old new)
 front_of_chains o o' geo pages old mid new same value moved front =
-    one_told (λ all. MovesFront (schema_chains (file_of all geo) (unused old)) OVERFLOW_LIST (after_tree (file_of all geo) old) new)
-    (λ all. SchemaFront (file_of all geo) old new) o (λ all m. inr m)
+    IfSome_then o
+    {P = λ all. MovesFront (schema_chains (file_of all geo) (unused old)) OVERFLOW_LIST (after_tree (file_of all geo) old) new}
+    {Q = λ all. SchemaFront (file_of all geo) old new}
     (tree_claim o o' geo pages old mid (λ f ps u t. MovesFront (chains_on f ps u) OVERFLOW_LIST t new) same value moved front)
+    (λ all m. inr m)
 
 -- the same at a success
 pub at_tree : {T E : Type 0} (r : Result T E) (o o' : Option (List ℕ)) (geo : Geometry) (pages : List ℕ) (old mid : Table)
@@ -113,8 +120,10 @@ pub chains_read : (told told' : Option (List ℕ)) (geo : Geometry) (old mid new
     → ReadsEach told' geo mid new at now more → ReadsChains told geo old new before now more
 chains_read told told' geo old mid new before at now more same each each' many tree chains start read =
     subst (λ (o : Option (List ℕ)). ReadsChains o geo old new before now more) same
-    (one_told (λ all. IsWhole all geo → now + length (unused new) ≤ at + length (unused mid) + more)
-    (λ all. IsWhole all geo → now + length (list_at OVERFLOW_LIST old.lists) ≤ before + length (list_at OVERFLOW_LIST new.lists) + more) told'
+    (IfSome_then told'
+    {P = λ all. IsWhole all geo → now + length (unused new) ≤ at + length (unused mid) + more}
+    {Q = λ all. IsWhole all geo → now + length (list_at OVERFLOW_LIST old.lists) ≤ before + length (list_at OVERFLOW_LIST new.lists) + more}
+    read
     (λ all h whole.
     omega (
       arith,
@@ -126,4 +135,4 @@ chains_read told told' geo old mid new before at now more same each each' many t
       ap (λ (t : Table). length (list_at OVERFLOW_LIST t.lists)) chains.all,
       ap length (list_at-all_moved chains.taken OVERFLOW_LIST mid each' (omega arith) (omega (arith, many, tree.same_lists)) chains.were_unused),
       length-append (list_at OVERFLOW_LIST mid.lists) chains.taken,
-    )) read)
+    )))

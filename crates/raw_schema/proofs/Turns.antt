@@ -4,11 +4,13 @@ use Rattle.std.specs.Prelude.{IfSome, if◌then◌else◌, is_none}
 use Rattle.std.specs.List.{AllByRecursion, flat_map}
 use Rattle.std.proofs.lemmas.List.{length-map, map-append}
 use Rattle.std.proofs.lemmas.List.Elements.{filter-append, filter_map-append}
+use Rattle.std.proofs.lemmas.Option.{IfSome_then}
 use Rattle.page_walk.specs.declared.outcomes.TakenCell.{TakenCell}
 use Rattle.page_walk.specs.declared.rows.PageNotes.{PageNotes}
 use Rattle.page_walk.specs.declared.turns.PageTurn.{PageTurn}
 use Rattle.page_access.specs.Files.{file_of}
 use Rattle.page_access.specs.declared.geometry.Geometry.{Geometry}
+use Rattle.page_access.proofs.Told.{always_told}
 use Rattle.page_lists.specs.Table.{IsPartition, Table, all_moved, unused}
 use Rattle.overflow_chain.specs.declared.TheConstants.{OVERFLOW_LIST}
 use Rattle.page_walk.specs.Bounds.{ArePages}
@@ -16,7 +18,6 @@ use Rattle.page_walk.specs.Cells.{Outcome, Row, outcome_of, row_of}
 use Rattle.page_walk.specs.Evidence.{Evidence}
 use Rattle.page_walk.specs.InTurn.{IsSmallTurn, pages_of_turn, turn_of}
 use Rattle.page_walk.specs.Turns.{chains_on, turns_on}
-use Rattle.page_walk.proofs.Going.{always_told, one_told}
 use Rattle.page_walk.proofs.InTurn.{chains_are}
 use Rattle.page_walk.proofs.Witness.{pages_have_evidence, unused_once}
 use Rattle.page_walk.specs.Rows.{rows_of}
@@ -73,18 +74,20 @@ bad_appended bad bad' cells rs left seen =
 pub of_turns : {X : Type 0} (give : List (ℕ × List Outcome) → X) (o : Option (List ℕ)) (geo : Geometry) (ps ps' u : List ℕ) (ts : List (ℕ × List Outcome)) (x : X)
     → ps' ≡ ps → IfSome o (λ all. ts ≡ turns_on (file_of all geo) ps' u) → x ≡ give ts → IfSome o (λ all. x ≡ give (turns_on (file_of all geo) ps u))
 of_turns give o geo ps ps' u ts x same told is =
-    one_told (λ all. ts ≡ turns_on (file_of all geo) ps' u) (λ all. x ≡ give (turns_on (file_of all geo) ps u)) o
-    (λ all e. is ∙ ap give e ∙ ap (λ (qs : List ℕ). give (turns_on (file_of all geo) qs u)) same) told
+    IfSome_then o {P = λ all. ts ≡ turns_on (file_of all geo) ps' u} {Q = λ all. x ≡ give (turns_on (file_of all geo) ps u)}
+    told
+    (λ all e. is ∙ ap give e ∙ ap (λ (qs : List ℕ). give (turns_on (file_of all geo) qs u)) same)
 
 -- the table after the chains of the turns moved
 pub table_of_turns : (o : Option (List ℕ)) (geo : Geometry) (ps ps' : List ℕ) (old new : Table) (ts : List (ℕ × List Outcome)) → ps' ≡ ps
     → IfSome o (λ all. ts ≡ turns_on (file_of all geo) ps' (unused old)) → new ≡ all_moved (flat_map pages_of_turn ts) OVERFLOW_LIST old
     → IfSome o (λ all. new ≡ all_moved (chains_on (file_of all geo) ps (unused old)) OVERFLOW_LIST old)
 table_of_turns o geo ps ps' old new ts same told moved =
-    one_told (λ all. new ≡ all_moved (flat_map pages_of_turn (turns_on (file_of all geo) ps (unused old))) OVERFLOW_LIST old)
-    (λ all. new ≡ all_moved (chains_on (file_of all geo) ps (unused old)) OVERFLOW_LIST old) o
-    (λ all e. e ∙ ap (λ (qs : List ℕ). all_moved qs OVERFLOW_LIST old) (chains_are (file_of all geo) ps (unused old)))
+    IfSome_then o
+    {P = λ all. new ≡ all_moved (flat_map pages_of_turn (turns_on (file_of all geo) ps (unused old))) OVERFLOW_LIST old}
+    {Q = λ all. new ≡ all_moved (chains_on (file_of all geo) ps (unused old)) OVERFLOW_LIST old}
     (of_turns (λ (xs : List (ℕ × List Outcome)). all_moved (flat_map pages_of_turn xs) OVERFLOW_LIST old) o geo ps ps' (unused old) ts new same told moved)
+    (λ all e. e ∙ ap (λ (qs : List ℕ). all_moved qs OVERFLOW_LIST old) (chains_are (file_of all geo) ps (unused old)))
 
 -- the cells of the pages have their evidence, where the bytes are told
 pub evidence_of_turns : (o : Option (List ℕ)) (geo : Geometry) (ps : List ℕ) (t : Table) → ArePages geo.pages ps → IsPartition t → t.pages ≡ geo.pages

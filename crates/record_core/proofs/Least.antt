@@ -91,12 +91,14 @@ whole_least (pos n) k l =
       | inr e ↦ elim (cases_Bool (eqb n 1)) [ inl f ↦ rw (e, f) (omega (arith, constant_len.1)) | inr f ↦ rw (e, f) (width_least n k l) ]
     ]
 
-constant_least : (z : ℤ) (t : ℕ) → ((t ≡ 8) × (z ≡ pos 0)) ⊎ ((t ≡ 9) × (z ≡ pos 1)) → body_len (whole_type z) ≡ 0
+-- 0 and 1 have no body
+pub constant_least : (z : ℤ) (t : ℕ) → ((t ≡ 8) × (z ≡ pos 0)) ⊎ ((t ≡ 9) × (z ≡ pos 1)) → body_len (whole_type z) ≡ 0
 unfolding whole_type body_len
 constant_least z t (inl w) = rw w.1 refl
 constant_least z t (inr w) = rw w.1 refl
 
-width_some : (t k : ℕ) → IsWidth t k → (1 ≤ k) × (k ≤ 8)
+-- a whole number's body has a byte at least and eight at most
+pub width_some : (t k : ℕ) → IsWidth t k → (1 ≤ k) × (k ≤ 8)
 width_some t k (inl w) = (omega (arith, w.1), omega (arith, w.1))
 width_some t k (inr (inl w)) = (omega (arith, w.1), omega (arith, w.1))
 width_some t k (inr (inr (inl w))) = (omega (arith, w.1), omega (arith, w.1))
@@ -145,7 +147,8 @@ type_least t first body (Real8 b) s i = same_least t 7 first s i.0
 type_least t first body (Text b) s i = same_least t _ first s (i.0 ∙ ap (λ n. 2 * n + 13) (sym (ap length i.1)))
 type_least t first body (Blob b) s i = same_least t _ first s (i.0 ∙ ap (λ n. 2 * n + 12) (sym (ap length i.1)))
 
-types_least : (ts : List ℕ) (vs : List Value) (types bodies : List ℕ) → SpellsTypes types ts → SpellsBodies bodies ts vs → length (types_of vs) ≤ length types
+-- the serial types of values take no more bytes than any spelling of types for them
+pub types_least : (ts : List ℕ) (vs : List Value) (types bodies : List ℕ) → SpellsTypes types ts → SpellsBodies bodies ts vs → length (types_of vs) ≤ length types
 types_least ts [] types bodies s b = omega arith
 types_least [] (v ∷ vs) types bodies s b = absurd b
 types_least (t ∷ ts) (v ∷ vs) types bodies s b =

@@ -4,7 +4,7 @@ use Rattle.std.specs.List.{AllByRecursion, flat_map}
 use Rattle.std.proofs.lemmas.Grind.{flat_map-append}
 use Rattle.std.proofs.lemmas.List.{drop_at, length-map, map-append, take_at}
 use Rattle.page_access.specs.Pages.{File}
-use Rattle.orphan_trees.proofs.Lists as lists
+use Rattle.page_lists.proofs.Moves.{count_pages}
 use Rattle.page_walk.specs.Cells.{Outcome, Read, Row}
 use Rattle.page_walk.specs.Walk.{kinds_of}
 use Rattle.page_walk.specs.declared.rows.PageNotes.{PageNotes}
@@ -172,7 +172,7 @@ all_back f rows all (r ∷ rs) ms (t ∷ tables) (ts ∷ turns) (x ∷ fates) sa
 all_back f rows all rs ms tables turns fates same names are turned pages sound = absurd are
 
 pub pages_are_all : PagesAreAll
-pages_are_all n q = lists.count_pages n q
+pages_are_all n q = count_pages n q
 
 pub files_come_back : FilesComeBack
 files_come_back bytes db s fates scope are =

@@ -1,16 +1,14 @@
 -- All readable cells: those of the schema's tree, of the tables' trees and of the orphan trees.
-use Rattle.std.proofs.Common.{◌≡◌, ◌≤◌, ℕ, true, not, List, [], ◌∷◌, ◌++◌, refl, sym, subst, arith, append_assoc}
+use Rattle.std.proofs.Common.{◌≡◌, ℕ, not, List, ◌++◌, refl, sym, subst, arith, append_assoc}
 use Rattle.std.specs.Prelude.{Option, filter, is_none, pos}
 use Rattle.std.specs.List.{AllByRecursion, flat_map}
 use Rattle.std.specs.List.Sorted.{IsPermutation}
-use Rattle.std.proofs.lemmas.Bool.Decides.{nat_tests}
 use Rattle.std.proofs.lemmas.List.Sorted.{IsPermutation-append_comm, IsPermutation-append_left, IsPermutation-append_right, IsPermutation-filter_both, IsPermutation-trans}
 use Rattle.page_access.specs.Pages.{File}
-use Rattle.page_lists.specs.Lists.{IsPartOf, minus}
+use Rattle.page_lists.specs.Lists.{minus}
 use Rattle.page_lists.specs.Table.{is_page}
-use Rattle.page_lists.proofs.Counts.{in_head, in_part}
+use Rattle.page_lists.proofs.Counts.{at_most_one}
 use Rattle.cell_reader.specs.declared.shapes.Kind.TheVariants as kinds
-use Rattle.page_walk.specs.Bounds.{ArePages}
 use Rattle.page_walk.specs.Cells.{Outcome, Row}
 use Rattle.page_walk.specs.Evidence.{AreOnce, Evidence}
 use Rattle.page_walk.proofs.Chains.{walks_are_unused}
@@ -23,11 +21,11 @@ use Rattle.tree_uses.specs.Trees.{chains_in}
 use Rattle.use_order.specs.Apart.{AreApart}
 use Rattle.use_order.specs.Laws.{UsesHold, schema_chains}
 use Rattle.use_order.specs.Order.{behind_uses}
-use Rattle.use_order.proofs.Holding.{uses_hold}
+use Rattle.use_order.proofs.Holding.{are_pages, uses_hold}
 use Rattle.salvaged_tables.specs.Fates.{TableFate}
 use Rattle.salvaged_tables.specs.Laws.{all_cells}
 use Rattle.orphan_trees.specs.Orphans.{Orphan, pages_in}
-use Rattle.orphan_trees.proofs.Lists.{at_most_one, once_left, page_of_unused}
+use Rattle.orphan_trees.proofs.Lists.{once_left}
 use Rattle.orphan_uses.specs.Laws.{OrphanUsesHold, orphan_rows}
 use Rattle.orphan_uses.proofs.Holding.{orphans_within, tables_within, uses_hold as orphan_uses_hold}
 use Rattle.orphan_uses.proofs.Within.{Within, within_append, within_apart, within_turns}
@@ -66,16 +64,6 @@ found_are f u fates cells =
     (last_moved (bad_rows f u) (good_in all) more)
 
 -- ---- evidence
-
-page_bounds : (n p : ℕ) → is_page n p ≡ true → (1 ≤ p) × (p ≤ n)
-page_bounds n p is = (grind (arith, nat_tests, is), grind (arith, nat_tests, is))
-
-are_pages : (n : ℕ) (ps unused : List ℕ) → AreOnce n unused → IsPartOf ps unused → ArePages n ps
-are_pages n [] u once part = tt
-are_pages n (p ∷ ps) u once part = (
-  page_bounds n p (page_of_unused n p u once (in_part p (p ∷ ps) u part (in_head p ps))),
-  are_pages n ps u once (λ q. omega (arith, part q)),
-)
 
 schema_evidence : (f : File) (u : List ℕ) → AreOnce f.pages u → AllByRecursion (Evidence f) (cells_in (schema_turns f u))
 schema_evidence f u once =

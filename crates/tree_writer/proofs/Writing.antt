@@ -84,7 +84,7 @@ starts_at usable kind k (s ∷ ss) zero lt = omega arith
 starts_at usable kind k (s ∷ ss) (suc j) lt =
     omega (arith, starts_at usable kind (k + width_of usable kind s.items) ss j (omega arith), sum_by-cons (widths usable kind) s (take j ss))
 
-length-chains : (usable : ℕ) (kind : Kind) (number : ℕ → ℕ) (k : ℕ) (items : List Item) → length (chains_from usable kind number k items) ≡ overs usable kind items
+pub length-chains : (usable : ℕ) (kind : Kind) (number : ℕ → ℕ) (k : ℕ) (items : List Item) → length (chains_from usable kind number k items) ≡ overs usable kind items
 length-chains usable kind number k [] = refl
 length-chains usable kind number k (x ∷ xs) =
     omega (

@@ -7,7 +7,7 @@ use Rattle.std.proofs.lemmas.Bool.Decides.{nat_tests}
 use Rattle.std.proofs.lemmas.Grind.{flat_map-append}
 use Rattle.page_access.specs.Pages.{File, page_at}
 use Rattle.page_lists.specs.Lists.{count, minus}
-use Rattle.page_lists.proofs.Counts.{count-append}
+use Rattle.page_lists.proofs.Counts.{at_most_one, count-append}
 use Rattle.record_core.specs.declared.faults.RecordFault.{RecordFault}
 use Rattle.record_core.specs.declared.values.Value.{Value}
 use Rattle.record_core.specs.Record.{record_of}
@@ -87,10 +87,6 @@ before_all q i least (Read row ∷ os) rise lt =
     omega (arith, not_yet q i row (omega (arith, rise.0, lt)), before_all q i (row.cell + 1) os rise.1 (omega (arith, rise.0, lt)))
 before_all q i least (Unread u ∷ os) rise lt = before_all q i (u.cell + 1) os rise.1 (omega (arith, rise.0, lt))
 
-one_or_none : (b : Bool) → (if b then 1 else 0) ≤ 1
-one_or_none true = omega arith
-one_or_none false = omega arith
-
 only_here : (q i : ℕ) (row : Row) → (row.cell == i) ≡ false → once_at q i row ≡ 0
 only_here q i row other = grind (arith, nat_tests, other)
 
@@ -100,7 +96,7 @@ at_most_once q i least (Read row ∷ os) rise =
     elim (cases_Bool (row.cell == i)) [
       | inl is ↦ omega (
         arith,
-        one_or_none ((row.page == q) && (row.cell == i)),
+        at_most_one ((row.page == q) && (row.cell == i)),
         before_all q i (row.cell + 1) os rise.1 (grind (arith, nat_tests, is)),
       )
       | inr isnt ↦ omega (arith, only_here q i row isnt, at_most_once q i (row.cell + 1) os rise.1)

@@ -1,14 +1,14 @@
 -- Each page has one use at most, and the readable cells of the tables have their evidence.
-use Rattle.std.proofs.Common.{◌≡◌, ◌≤◌, inl, inr, ℕ, ◌+◌, Bool, true, false, List, [], ◌∷◌, ◌++◌, map, refl, sym, ◌∙◌, ap, subst, arith}
+use Rattle.std.proofs.Common.{◌≡◌, ◌≤◌, inl, inr, ℕ, ◌+◌, Bool, List, [], ◌∷◌, ◌++◌, map, refl, sym, ◌∙◌, ap, subst, arith}
 use Rattle.std.specs.Prelude.{pos, if◌then◌else◌}
 use Rattle.std.specs.List.{AllByRecursion, flat_map}
 use Rattle.std.proofs.lemmas.Bool.{cases_Bool}
-use Rattle.std.proofs.lemmas.Bool.Decides.{nat_tests}
 use Rattle.std.proofs.lemmas.Grind.{flat_map-append}
 use Rattle.page_access.specs.Pages.{File}
 use Rattle.page_lists.specs.Lists.{IsPartOf, count, minus}
 use Rattle.page_lists.specs.Table.{is_page}
-use Rattle.page_lists.proofs.Counts.{count_in, count-minus, in_head}
+use Rattle.page_lists.proofs.Counts.{at_most_one, count_in, count-minus, in_head}
+use Rattle.page_lists.proofs.Moves.{page_bounds}
 use Rattle.cell_reader.specs.declared.shapes.Kind.TheVariants as kinds
 use Rattle.page_walk.specs.Bounds.{ArePages}
 use Rattle.page_walk.specs.Cells.{Outcome, Row}
@@ -31,21 +31,14 @@ cells_joined (ts ∷ tss) =
     ap (λ (rows : List Row). cells_in ts ++ rows) (cells_joined tss)
     ∙ sym (flat_map-append _ ts (flat_map (λ (us : List (ℕ × List Outcome)). us) tss))
 
-page_bounds : (n p : ℕ) → is_page n p ≡ true → (1 ≤ p) × (p ≤ n)
-page_bounds n p is = (grind (arith, nat_tests, is), grind (arith, nat_tests, is))
-
 -- pages among unused ones are pages of the file
-are_pages : (n : ℕ) (ps unused : List ℕ) → AreOnce n unused → ((q : ℕ) → count q ps ≤ count q unused) → ArePages n ps
+pub are_pages : (n : ℕ) (ps unused : List ℕ) → AreOnce n unused → ((q : ℕ) → count q ps ≤ count q unused) → ArePages n ps
 are_pages n [] unused once part = tt
 are_pages n (p ∷ ps) unused once part =
     elim (cases_Bool (is_page n p)) [
       | inl is ↦ (page_bounds n p is, are_pages n ps unused once (λ q. omega (arith, part q)))
       | inr isnt ↦ absurd (omega (arith, part p, once p, ap {B = ℕ} (λ (b : Bool). if b then 1 else 0) isnt, count_in p (p ∷ ps) (in_head p ps)))
     ]
-
-at_most_one : (b : Bool) → (if b then 1 else 0) ≤ 1
-at_most_one true = omega arith
-at_most_one false = omega arith
 
 -- the rows of pages that have no other use, and whose chains have none
 rows_apart : (f : File) (ps unused : List ℕ) → ((q : ℕ) → count q ps + count q (chains_on f ps unused) ≤ 1) → AreApart (cells_in (turns_on f ps unused))

@@ -3,6 +3,7 @@ use Rattle.std.proofs.Common.{◌≡◌, ◌≤◌, ◌++◌, ℕ, Option, Some,
 use Rattle.std.specs.Prelude.{IfSome}
 use Rattle.std.specs.List.{concat, flat_map}
 use Rattle.std.proofs.lemmas.List.FromFn.{length-range_with_len}
+use Rattle.std.proofs.lemmas.Option.{IfSome_then}
 use Rattle.page_access.specs.Files.{file_of}
 use Rattle.page_access.specs.Pages.{File}
 use Rattle.page_access.specs.declared.geometry.Geometry.{Geometry}
@@ -16,7 +17,6 @@ use Rattle.overflow_chain.specs.declared.TheConstants.{OVERFLOW_LIST}
 use Rattle.page_walk.specs.Cells.{Outcome, row_of}
 use Rattle.page_walk.specs.Turns.{chains_on}
 use Rattle.page_walk.specs.Walk.{kinds_of}
-use Rattle.page_walk.proofs.Going.{one_told}
 use Rattle.raw_schema.specs.Schema.{SchemaMoves, after_schema, bad_rows, schema_notes, schema_pages, schema_rows}
 use Rattle.raw_schema.specs.declared.TheConstants.{SCHEMA_LIST}
 use Rattle.raw_schema.specs.declared.reading.RawSchema.{RawSchema}
@@ -115,9 +115,10 @@ pub table_is : (o : Option (List ℕ)) (geo : Geometry) (t0 t1 t2 t3 t4 : Table)
     → t3 ≡ all_moved (pages_in indexes) INDEX_LIST t2 → t4 ≡ all_moved (flat_map chains_in turns) OVERFLOW_LIST t3
     → IfSome o (λ all. t4 ≡ after_uses (file_of all geo) t0 tables indexes turns)
 table_is o geo t0 t1 t2 t3 t4 tables indexes turns schema m2 m3 m4 =
-    one_told (λ all. t1 ≡ after_schema (file_of all geo) t0) (λ all. t4 ≡ after_uses (file_of all geo) t0 tables indexes turns) o
+    IfSome_then o {P = λ all. t1 ≡ after_schema (file_of all geo) t0} {Q = λ all. t4 ≡ after_uses (file_of all geo) t0 tables indexes turns}
+    schema
     (λ all e. m4 ∙ ap (all_moved (flat_map chains_in turns) OVERFLOW_LIST)
-    (m3 ∙ ap (all_moved (pages_in indexes) INDEX_LIST) (m2 ∙ ap (all_moved (pages_in tables) TABLE_LIST) e))) schema
+    (m3 ∙ ap (all_moved (pages_in indexes) INDEX_LIST) (m2 ∙ ap (all_moved (pages_in tables) TABLE_LIST) e)))
 
 -- what is unused behind all these
 pub unused_after : (f : File) (t : Table) (tables indexes : List Tree) (turns : List (List (ℕ × List Outcome)))

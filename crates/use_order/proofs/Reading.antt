@@ -1,15 +1,16 @@
 -- How often pages are read.
 use Rattle.std.proofs.Common.{◌≡◌, ◌≤◌, ℕ, ◌+◌, ◌*◌, Option, List, length, refl, sym, ◌∙◌, ap, subst, arith, length-append, Some, None}
 use Rattle.std.specs.Prelude.{if◌then◌else◌, IfSome, IsErr, Result, is_ok}
+use Rattle.std.proofs.lemmas.Option.{IfSome_then}
 use Rattle.page_access.specs.Files.{IsWhole, file_of}
 use Rattle.page_access.specs.declared.geometry.Geometry.{Geometry}
+use Rattle.page_access.proofs.Told.{both_told}
 use Rattle.page_lists.specs.Lists.{IsPartOf}
 use Rattle.page_lists.specs.Table.{IsPartition, Table, all_moved, list_at, unused}
 use Rattle.page_lists.proofs.Counts.{length-minus}
 use Rattle.page_lists.proofs.Uses.{Moves-partition, list_at-all_moved, list_at-all_moved-other, unused-all_moved}
 use Rattle.overflow_chain.specs.declared.TheConstants.{OVERFLOW_LIST}
 use Rattle.page_walk.specs.Turns.{ReadsEach}
-use Rattle.page_walk.proofs.Going.{both_told, one_told}
 use Rattle.page_walk.proofs.InTurn.{at_err, reads_more, reads_weaker}
 use Rattle.raw_schema.specs.Schema.{ReadsChains, ReadsTwice, SchemaMoves}
 use Rattle.raw_schema.specs.declared.TheConstants.{SCHEMA_LIST}
@@ -36,8 +37,10 @@ reads_then o o' geo a b c i j k m same moves first next =
 -- fewer reads than are allowed
 pub twice_weaker : (o : Option (List ℕ)) (geo : Geometry) (a b : Table) (i j m n : ℕ) → m ≤ n → ReadsTwice o geo a b i j m → ReadsTwice o geo a b i j n
 twice_weaker o geo a b i j m n le read =
-    one_told (λ all. IsWhole all geo → j + 2 * length (unused b) ≤ i + 2 * length (unused a) + m)
-    (λ all. IsWhole all geo → j + 2 * length (unused b) ≤ i + 2 * length (unused a) + n) o (λ all p whole. omega (arith, p whole, le)) read
+    IfSome_then o
+    {P = λ all. IsWhole all geo → j + 2 * length (unused b) ≤ i + 2 * length (unused a) + m}
+    {Q = λ all. IsWhole all geo → j + 2 * length (unused b) ≤ i + 2 * length (unused a) + n}
+    read (λ all p whole. omega (arith, p whole, le))
 
 -- the pages of the tables' trees were unused
 tables_len : (all : List ℕ) (geo : Geometry) (b c : Table) (wanted : List WantedTree) (tables : List Tree)
@@ -90,8 +93,10 @@ pub chains_each : (o : Option (List ℕ)) (geo : Geometry) (a b : Table) (i j mo
     → ReadsChains o geo a b i j more → ReadsEach o geo a b i j more
 chains_each o geo a b i j more each many moves read =
     let between : IsPartition moves.between = Moves-partition SCHEMA_LIST a moves.between (omega arith) (omega (arith, many)) moves.tree each in
-    one_told (λ all. IsWhole all geo → j + length (list_at OVERFLOW_LIST a.lists) ≤ i + length (list_at OVERFLOW_LIST b.lists) + more)
-    (λ all. IsWhole all geo → j + length (unused b) ≤ i + length (unused a) + more) o
+    IfSome_then o
+    {P = λ all. IsWhole all geo → j + length (list_at OVERFLOW_LIST a.lists) ≤ i + length (list_at OVERFLOW_LIST b.lists) + more}
+    {Q = λ all. IsWhole all geo → j + length (unused b) ≤ i + length (unused a) + more}
+    read
     (λ all h whole.
     omega (
       arith,
@@ -104,7 +109,7 @@ chains_each o geo a b i j more each many moves read =
       ap (λ (t : Table). length (list_at OVERFLOW_LIST t.lists)) moves.chains.all,
       ap length (list_at-all_moved moves.chains.taken OVERFLOW_LIST moves.between between (omega arith) (omega (arith, many, moves.tree.same_lists)) moves.chains.were_unused),
       length-append (list_at OVERFLOW_LIST moves.between.lists) moves.chains.taken,
-    )) read
+    ))
 
 -- reads of one part of the way, and of the next
 pub each_then : (o o' : Option (List ℕ)) (geo : Geometry) (a b c : Table) (i j k m : ℕ) → o' ≡ o → ReadsEach o geo a b i j 0 → ReadsEach o' geo b c j k m

@@ -1,20 +1,20 @@
 -- The shortest record of some values is at most eight times as long as any record of them.
-use Rattle.std.proofs.Common.{◌≡◌, ◌<◌, ◌≤◌, ◌⊎◌, inl, inr, ℕ, ◌+◌, ◌*◌, ℤ, pos, eqb, ltb, true, List, [], ◌∷◌, ◌++◌, length, sum_by, refl, ap, sym, ◌∙◌, arith, lit≤, length-append, ltb-true, ltb-false}
+use Rattle.std.proofs.Common.{◌≡◌, ◌<◌, ◌≤◌, inl, inr, ℕ, ◌+◌, ◌*◌, eqb, ltb, true, List, [], ◌∷◌, ◌++◌, length, sum_by, refl, ap, arith, lit≤, length-append, ltb-true, ltb-false}
 use Rattle.std.proofs.lemmas.Bool.{cases_Bool}
 use Rattle.std.proofs.lemmas.Bool.Decides.{nat_tests}
 use Rattle.std.proofs.lemmas.List.Sums.{sum_by-cons}
 use Rattle.std.specs.Int.{w64}
 use Rattle.byteorder.specs.Endian.{low_bytes}
 use Rattle.byteorder.specs.Numbers.{length-bytes_high_first}
-use Rattle.varint_core.specs.Varint.{IsVarint}
 use Rattle.varint_core.specs.Shortest.{spell, varint_len}
 use Rattle.varint_core.proofs.Laws.{varint_some}
-use Rattle.varint_core.proofs.Spelled.{len_is, len_least, least_by, length-spell}
+use Rattle.varint_core.proofs.Spelled.{len_is, len_least, length-spell}
 use Rattle.record_core.specs.declared.values.Value.{Value}
 use Rattle.record_core.specs.declared.values.Value.TheVariants.{Null, Whole, Real8, Text, Blob}
 use Rattle.record_core.specs.Record.{body_len, value_len}
 use Rattle.record_core.specs.Shortest.{bodies_of, body_of, header_len, record_bytes, serial_type, types_of, whole_type}
-use Rattle.record_core.specs.Spelling.{IsBody, IsRecord, IsWidth, SpellsBodies, SpellsTypes}
+use Rattle.record_core.specs.Spelling.{IsBody, IsRecord, SpellsBodies, SpellsTypes}
+use Rattle.record_core.proofs.Least.{constant_least, types_least, width_some}
 use Rattle.record_core.proofs.Written.{whole_small}
 
 -- ---- a value
@@ -33,55 +33,29 @@ body_few t le =
       ]
     ]
 
-width_some : (t k : ℕ) → IsWidth t k → 1 ≤ k
-width_some t k (inl w) = omega (arith, w.1)
-width_some t k (inr (inl w)) = omega (arith, w.1)
-width_some t k (inr (inr (inl w))) = omega (arith, w.1)
-width_some t k (inr (inr (inr (inl w)))) = omega (arith, w.1)
-width_some t k (inr (inr (inr (inr (inl w))))) = omega (arith, w.1)
-width_some t k (inr (inr (inr (inr (inr w))))) = omega (arith, w.1)
-
-constant_none : (z : ℤ) (t : ℕ) → ((t ≡ 8) × (z ≡ pos 0)) ⊎ ((t ≡ 9) × (z ≡ pos 1)) → body_len (whole_type z) ≡ 0
-unfolding whole_type body_len
-constant_none z t (inl w) = rw w.1 refl
-constant_none z t (inr w) = rw w.1 refl
-
--- a serial type that fits a byte takes no more than any spelling of a type does
-byte_least : (t u : ℕ) (first : List ℕ) → u ≤ 9 → IsVarint first t → length (spell u) ≤ length first
-byte_least t u first le s =
-    omega (arith, length-spell u, len_least u (varint_len u) 1 (len_is u) (lit≤ tt) (omega (arith, le)), varint_some first t s)
-
-same_least : (t u : ℕ) (first : List ℕ) → IsVarint first t → t ≡ u → length (spell u) ≤ length first
-same_least t u first s e = rw (← e, length-spell t) (least_by first t s s.end)
-
--- the serial type of a value takes no more bytes than any spelling of it, and its body eight times as many at most
-record IsLong (v : Value) (first body : List ℕ) : Type 0 where
-  type : length (spell (serial_type v)) ≤ length first
+-- the body of a value takes eight times as many bytes as any body of it at most
+record IsLong (v : Value) (body : List ℕ) : Type 0 where
   bytes : length (body_of v) ≤ 8 * length body
   held : value_len v ≤ length body
 
-value_long : (t : ℕ) (first body : List ℕ) (v : Value) → IsVarint first t → IsBody t body v → IsLong v first body
-value_long t first body Null s i = record { type = byte_least t 0 first (lit≤ tt) s; bytes = omega arith; held = omega arith }
-value_long t first body (Whole z) s (inl i) = record {
-  type = byte_least t (whole_type z) first (whole_small z) s;
+value_long : (t : ℕ) (body : List ℕ) (v : Value) → IsBody t body v → IsLong v body
+value_long t body Null i = record { bytes = omega arith; held = omega arith }
+value_long t body (Whole z) (inl i) = record {
   bytes = omega (
     arith,
     length-bytes_high_first (body_len (whole_type z)) (low_bytes w64 (body_len (whole_type z)) z),
     body_few (whole_type z) (whole_small z),
-    width_some t (length body) i.width,
+    (width_some t (length body) i.width).0,
   );
   held = omega arith;
 }
-value_long t first body (Whole z) s (inr i) = record {
-  type = byte_least t (whole_type z) first (whole_small z) s;
-  bytes = omega (arith, length-bytes_high_first (body_len (whole_type z)) (low_bytes w64 (body_len (whole_type z)) z), constant_none z t i.value);
+value_long t body (Whole z) (inr i) = record {
+  bytes = omega (arith, length-bytes_high_first (body_len (whole_type z)) (low_bytes w64 (body_len (whole_type z)) z), constant_least z t i.value);
   held = omega arith;
 }
-value_long t first body (Real8 b) s i = record { type = byte_least t 7 first (lit≤ tt) s; bytes = omega (arith, ap length i.2); held = omega (arith, ap length i.2) }
-value_long t first body (Text b) s i =
-    record { type = same_least t _ first s (i.0 ∙ ap (λ n. 2 * n + 13) (sym (ap length i.1))); bytes = omega (arith, ap length i.1); held = omega (arith, ap length i.1) }
-value_long t first body (Blob b) s i =
-    record { type = same_least t _ first s (i.0 ∙ ap (λ n. 2 * n + 12) (sym (ap length i.1))); bytes = omega (arith, ap length i.1); held = omega (arith, ap length i.1) }
+value_long t body (Real8 b) i = record { bytes = omega (arith, ap length i.2); held = omega (arith, ap length i.2) }
+value_long t body (Text b) i = record { bytes = omega (arith, ap length i.1); held = omega (arith, ap length i.1) }
+value_long t body (Blob b) i = record { bytes = omega (arith, ap length i.1); held = omega (arith, ap length i.1) }
 
 -- ---- a record
 
@@ -96,13 +70,13 @@ values_long : (ts : List ℕ) (vs : List Value) (types bodies : List ℕ) → Sp
 values_long ts [] types bodies s b = record { each = omega arith; types = omega arith; bytes = omega arith; held = omega arith }
 values_long [] (v ∷ vs) types bodies s b = absurd b
 values_long (t ∷ ts) (v ∷ vs) types bodies s b =
-    let one = value_long t s.0 b.0 v s.3 b.3 in
+    let one = value_long t b.0 v b.3 in
     let more = values_long ts vs s.1 b.1 s.4 b.4 in
     let some = len_is (serial_type v) in
     let type = length-spell (serial_type v) in
     record {
       each = omega (arith, more.each, some.some, type, length-append (spell (serial_type v)) (types_of vs));
-      types = omega (arith, one.type, more.types, ap length s.2, length-append s.0 s.1, length-append (spell (serial_type v)) (types_of vs));
+      types = types_least (t ∷ ts) (v ∷ vs) types bodies s b;
       bytes = omega (arith, one.bytes, more.bytes, ap length b.2, length-append b.0 b.1, length-append (body_of v) (bodies_of vs));
       held = omega (arith, one.held, more.held, ap length b.2, length-append b.0 b.1, sum_by-cons value_len v vs);
     }

@@ -10,7 +10,7 @@ use Rattle.page_access.specs.Files.{max_input}
 use Rattle.page_access.specs.Pages.{File, page_at}
 use Rattle.page_lists.specs.Lists.{IsPartOf, count, firsts, is_in, minus, without}
 use Rattle.page_lists.specs.Table.{is_page}
-use Rattle.page_lists.proofs.Counts.{count-append, count-minus, count_in, in_from_count, in_head, in_part, not_in_from_count, part_rest}
+use Rattle.page_lists.proofs.Counts.{at_most_one, count-append, count-minus, count_in, in_from_count, in_head, in_part, not_in_from_count, part_rest}
 use Rattle.cell_reader.specs.declared.shapes.PageShape.{PageShape}
 use Rattle.cell_reader.specs.Shape.{head_of, shape_at, type_of}
 use Rattle.overflow_chain.specs.Chain.{Linked, chain_len, next_page}
@@ -200,10 +200,6 @@ no_orphans f u shapeless =
           | inl there ↦ let none : is_some (kind_on f q) ≡ false = ap is_some (shapeless q there) in and_right (is_in q u) (is_some (kind_on f q)) none
           | inr out ↦ rw out refl
         ]
-
-at_most_one : (b : Bool) → (if b then 1 else 0) ≤ 1
-at_most_one true = omega arith
-at_most_one false = omega arith
 
 -- ---- a well-formed file of at most 2^28 bytes
 

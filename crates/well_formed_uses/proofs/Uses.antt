@@ -1,11 +1,10 @@
 -- The uses of the pages of a well-formed file, in order.
-use Rattle.std.proofs.Common.{◌≡◌, ◌≤◌, ℕ, ◌+◌, Bool, true, false, Option, Some, List, ◌++◌, map, sym, ap, ◌∙◌, subst, arith}
-use Rattle.std.specs.Prelude.{if◌then◌else◌}
+use Rattle.std.proofs.Common.{◌≡◌, ℕ, ◌+◌, Option, Some, List, ◌++◌, map, sym, ap, ◌∙◌, subst, arith}
 use Rattle.std.specs.List.{AllZip, concat, flat_map}
 use Rattle.page_access.specs.Pages.{File}
 use Rattle.page_lists.specs.Lists.{IsPartOf, count, minus}
 use Rattle.page_lists.specs.Table.{is_page}
-use Rattle.page_lists.proofs.Counts.{count-append, count-minus}
+use Rattle.page_lists.proofs.Counts.{at_most_one, count-append, count-minus}
 use Rattle.page_walk.specs.Cells.{Outcome}
 use Rattle.page_walk.specs.Evidence.{AreOnce}
 use Rattle.page_walk.specs.Walk.{kinds_of}
@@ -32,10 +31,6 @@ use Rattle.well_formed_uses.proofs.Phases.{SchemaIs, chains_joined, same_joined,
 use Rattle.well_formed_uses.proofs.Stored.{stored_is, tree_in}
 use Rattle.well_formed_uses.proofs.Unplaced.{readings_same, trees_same}
 use Rattle.well_formed_uses.proofs.Wanting.{Matched, matched, trees_of, trees_wanted}
-
-at_most_one : (b : Bool) → (if b then 1 else 0) ≤ 1
-at_most_one true = omega arith
-at_most_one false = omega arith
 
 -- the pages that are unused before the tables' cells have their turns
 abbrev pub before_turns : File → List ℕ → List Tree → List Tree → List ℕ

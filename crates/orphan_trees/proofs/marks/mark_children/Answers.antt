@@ -1,9 +1,9 @@
 use Rattle.std.proofs.Common.{◌≡◌, ◌+◌, ◌∙◌, Bool, List, false, ap, arith, length, subst, sym}
 use Rattle.std.proofs.lemmas.List.{length-replicate}
+use Rattle.std.proofs.lemmas.Option.{IfSome_then}
 use Rattle.page_access.specs.Files.{file_of}
 use Rattle.page_access.proofs.Keeps.{not_failed}
 use Rattle.page_lists.specs.Table.{unused}
-use Rattle.page_walk.proofs.Going.{one_told}
 use Rattle.orphan_trees.specs.Passes.{children_at, with_marks}
 use Rattle.orphan_trees.proofs.Marking.{Marking, fewer_reads, marking_end, marking_more, marking_reads, marking_start, written_back}
 use Rattle.orphan_trees.proofs.marks.mark_children.Goals as goal
@@ -25,11 +25,11 @@ loop-before-preserved g c =
           (marking_more c.mark_page.new.src c.mark_page.new.cache c.mark_page.new.marks c.loop-before.invariant.marking c.loop-before-test.true
           c.mark_page.ensures.kept (not_failed c.in_ok-mark_page.ensures.cause.steady) c.mark_page.ensures.cached c.mark_page.ensures.full
           (c.mark_page.ensures.len ∙ ap length seen) c.mark_page.ensures.reads
-          (one_told (λ all. c.mark_page.new.marks ≡ with_marks (children_at (file_of all c.args.geo.now) (unused c.args.table.now) (c.loop-before.before + 1)) c.as_mut_slice.result.now)
-          (λ all. c.mark_page.new.marks ≡ with_marks (children_at (file_of all c.args.geo.now) (unused c.args.table.now) (c.loop-before.before + 1)) c.loop-before.marks.items)
-          (g.S.Source.bytes c.loop-before.src)
-          (λ all p. p ∙ ap (with_marks (children_at (file_of all c.args.geo.now) (unused c.args.table.now) (c.loop-before.before + 1))) seen)
-          c.in_ok-mark_page.ensures.value));
+          (IfSome_then (g.S.Source.bytes c.loop-before.src)
+          {P = λ all. c.mark_page.new.marks ≡ with_marks (children_at (file_of all c.args.geo.now) (unused c.args.table.now) (c.loop-before.before + 1)) c.as_mut_slice.result.now}
+          {Q = λ all. c.mark_page.new.marks ≡ with_marks (children_at (file_of all c.args.geo.now) (unused c.args.table.now) (c.loop-before.before + 1)) c.loop-before.marks.items}
+          c.in_ok-mark_page.ensures.value
+          (λ all p. p ∙ ap (with_marks (children_at (file_of all c.args.geo.now) (unused c.args.table.now) (c.loop-before.before + 1))) seen)));
     }
 
 pub returns-in_err-mark_page-clause-reads : goal.returns-in_err-mark_page-clause-reads

@@ -1,7 +1,7 @@
 use Rattle.std.proofs.Common.{◌≡◌, ◌++◌, sym, ◌∙◌}
+use Rattle.std.proofs.lemmas.Option.{IfSome_then}
 use Rattle.page_access.specs.Files.{file_of}
 use Rattle.page_walk.specs.Pointers.{pointers_on}
-use Rattle.page_walk.proofs.Going.{one_told}
 use Rattle.page_lists.specs.Table.{unused}
 use Rattle.orphan_trees.proofs.Surveyed.{marked_told, read_told, unmarked_told}
 use Rattle.orphan_trees.proofs.marks.mark_page.Goals as goal
@@ -21,9 +21,11 @@ returns-clause-value g c =
     marked_told (g.S.Source.bytes c.args.src.now) c.args.geo.now c.args.survey.now (unused c.args.table.now) c.args.page c.in-Some.kind
     c.clear.new.self.items c.deref.result.now c.args.marks.now c.mark_all.new.marks c.requires.low c.requires.high c.requires.kinds
     (sym c.kind_unused.ensures ∙ c.in-Some.is) c.clear.ensures.items
-    (one_told (λ all. c.pointers_with.new.to.items ≡ c.clear.new.self.items ++ pointers_on (file_of all c.args.geo.now) c.args.page)
-    (λ all. c.deref.result.now ≡ c.clear.new.self.items ++ pointers_on (file_of all c.args.geo.now) c.args.page) (g.S.Source.bytes c.args.src.now)
-    (λ all p. c.deref.ensures.value ∙ p) c.in_ok-pointers_with.ensures.value)
+    (IfSome_then (g.S.Source.bytes c.args.src.now)
+    {P = λ all. c.pointers_with.new.to.items ≡ c.clear.new.self.items ++ pointers_on (file_of all c.args.geo.now) c.args.page}
+    {Q = λ all. c.deref.result.now ≡ c.clear.new.self.items ++ pointers_on (file_of all c.args.geo.now) c.args.page}
+    c.in_ok-pointers_with.ensures.value
+    (λ all p. c.deref.ensures.value ∙ p))
     c.mark_all.ensures.value
 
 pub returns-clause-reads : goal.returns-clause-reads

@@ -1,8 +1,8 @@
 use Rattle.std.proofs.Common.{◌≡◌, ◌∙◌, List, ℕ, None, [], rules, sym, w64}
 use Rattle.page_lists.specs.Table.{unused}
-use Rattle.page_walk.proofs.Going.{always_told}
 use Rattle.orphan_trees.proofs.Surveyed.{tree_told, walk_front, walk_told}
 use Rattle.std.proofs.lemmas.Int.{to_z-of_z}
+use Rattle.page_access.proofs.Told.{always_told}
 use Rattle.orphan_trees.proofs.passes.walk_orphan.Goals as goal
 
 pub returns-in_default-clause-value : goal.returns-in_default-clause-value

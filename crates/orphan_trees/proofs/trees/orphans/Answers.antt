@@ -1,9 +1,9 @@
 use Rattle.std.proofs.Common.{◌≡◌, ◌∙◌, ℕ, false, ap, arith, map, replicate}
 use Rattle.std.proofs.lemmas.List.{map-append}
+use Rattle.std.proofs.lemmas.Option.{IfSome_then}
 use Rattle.page_access.specs.Files.{file_of}
 use Rattle.page_lists.specs.Table.{unused}
 use Rattle.page_lists.proofs.Uses.{Moves-append}
-use Rattle.page_walk.proofs.Going.{one_told}
 use Rattle.page_walk.proofs.InTurn.{at_err, reads_more, reads_weaker}
 use Rattle.orphan_trees.specs.Orphans.{ReadsOrphans, orphan_children, orphan_of}
 use Rattle.orphan_trees.specs.Passes.{with_marks}
@@ -19,9 +19,11 @@ returns-in_err-trees-clause-front g c =
     let o = g.S.Source.bytes c.args.src.now in
     let o1 = g.S.Source.bytes c.mark_children.new.src in
     let geo = c.args.geo.now in
-    let marked = one_told (λ all. c.in_ok-marks.marks.items ≡ with_marks (orphan_children (file_of all geo) (unused c.args.table.now)) (replicate geo.pages false))
-    (λ all. c.deref.result.now ≡ with_marks (orphan_children (file_of all geo) (unused c.args.table.now)) (replicate geo.pages false)) o
-    (λ all p. c.deref.ensures.value ∙ p) c.in_ok-marks.ensures.value in
+    let marked = IfSome_then o
+    {P = λ all. c.in_ok-marks.marks.items ≡ with_marks (orphan_children (file_of all geo) (unused c.args.table.now)) (replicate geo.pages false)}
+    {Q = λ all. c.deref.result.now ≡ with_marks (orphan_children (file_of all geo) (unused c.args.table.now)) (replicate geo.pages false)}
+    c.in_ok-marks.ensures.value
+    (λ all p. c.deref.ensures.value ∙ p) in
     first_told o o1 geo c.args.table.now c.walk_unmarked.new.table c.deref.result.now c.mark_children.ensures.kept.told c.pages-pages.ensures.partition c.requires.same_pages marked c.walk_unmarked.ensures.front
 
 pub returns-in_err-later-clause-front : goal.returns-in_err-later-clause-front
@@ -29,9 +31,11 @@ returns-in_err-later-clause-front g c =
     let o = g.S.Source.bytes c.args.src.now in
     let o1 = g.S.Source.bytes c.mark_children.new.src in
     let geo = c.args.geo.now in
-    let marked = one_told (λ all. c.in_ok-marks.marks.items ≡ with_marks (orphan_children (file_of all geo) (unused c.args.table.now)) (replicate geo.pages false))
-    (λ all. c.deref.result.now ≡ with_marks (orphan_children (file_of all geo) (unused c.args.table.now)) (replicate geo.pages false)) o
-    (λ all p. c.deref.ensures.value ∙ p) c.in_ok-marks.ensures.value in
+    let marked = IfSome_then o
+    {P = λ all. c.in_ok-marks.marks.items ≡ with_marks (orphan_children (file_of all geo) (unused c.args.table.now)) (replicate geo.pages false)}
+    {Q = λ all. c.deref.result.now ≡ with_marks (orphan_children (file_of all geo) (unused c.args.table.now)) (replicate geo.pages false)}
+    c.in_ok-marks.ensures.value
+    (λ all p. c.deref.ensures.value ∙ p) in
     let none : c.deref-2.result.now ≡ replicate geo.pages false =
     c.deref-2.ensures.value ∙ c.fill.ensures.items (λ y h. h) ∙ ap (λ (n : ℕ). replicate n false) (omega (arith, c.in_ok-marks.marks.ok.0, c.in_ok-marks.ensures.len)) in
     later_told o o1 (g.S.Source.bytes c.walk_unmarked.new.src) geo c.args.table.now c.walk_unmarked.new.table c.walk_unmarked-2.new.table c.deref.result.now c.deref-2.result.now (map orphan_of c.in_ok-trees.trees.items) c.mark_children.ensures.kept.told (c.walk_unmarked.ensures.kept.told ∙ c.mark_children.ensures.kept.told) c.pages-pages.ensures.partition c.requires.same_pages
@@ -42,9 +46,11 @@ returns-in_err-append-clause-front g c =
     let o = g.S.Source.bytes c.args.src.now in
     let o1 = g.S.Source.bytes c.mark_children.new.src in
     let geo = c.args.geo.now in
-    let marked = one_told (λ all. c.in_ok-marks.marks.items ≡ with_marks (orphan_children (file_of all geo) (unused c.args.table.now)) (replicate geo.pages false))
-    (λ all. c.deref.result.now ≡ with_marks (orphan_children (file_of all geo) (unused c.args.table.now)) (replicate geo.pages false)) o
-    (λ all p. c.deref.ensures.value ∙ p) c.in_ok-marks.ensures.value in
+    let marked = IfSome_then o
+    {P = λ all. c.in_ok-marks.marks.items ≡ with_marks (orphan_children (file_of all geo) (unused c.args.table.now)) (replicate geo.pages false)}
+    {Q = λ all. c.deref.result.now ≡ with_marks (orphan_children (file_of all geo) (unused c.args.table.now)) (replicate geo.pages false)}
+    c.in_ok-marks.ensures.value
+    (λ all p. c.deref.ensures.value ∙ p) in
     let none : c.deref-2.result.now ≡ replicate geo.pages false =
     c.deref-2.ensures.value ∙ c.fill.ensures.items (λ y h. h) ∙ ap (λ (n : ℕ). replicate n false) (omega (arith, c.in_ok-marks.marks.ok.0, c.in_ok-marks.ensures.len)) in
     later_told o o1 (g.S.Source.bytes c.walk_unmarked.new.src) geo c.args.table.now c.walk_unmarked.new.table c.walk_unmarked-2.new.table c.deref.result.now c.deref-2.result.now (map orphan_of c.in_ok-trees.trees.items) c.mark_children.ensures.kept.told (c.walk_unmarked.ensures.kept.told ∙ c.mark_children.ensures.kept.told) c.pages-pages.ensures.partition c.requires.same_pages
@@ -55,9 +61,11 @@ returns-clause-front g c =
     let o = g.S.Source.bytes c.args.src.now in
     let o1 = g.S.Source.bytes c.mark_children.new.src in
     let geo = c.args.geo.now in
-    let marked = one_told (λ all. c.in_ok-marks.marks.items ≡ with_marks (orphan_children (file_of all geo) (unused c.args.table.now)) (replicate geo.pages false))
-    (λ all. c.deref.result.now ≡ with_marks (orphan_children (file_of all geo) (unused c.args.table.now)) (replicate geo.pages false)) o
-    (λ all p. c.deref.ensures.value ∙ p) c.in_ok-marks.ensures.value in
+    let marked = IfSome_then o
+    {P = λ all. c.in_ok-marks.marks.items ≡ with_marks (orphan_children (file_of all geo) (unused c.args.table.now)) (replicate geo.pages false)}
+    {Q = λ all. c.deref.result.now ≡ with_marks (orphan_children (file_of all geo) (unused c.args.table.now)) (replicate geo.pages false)}
+    c.in_ok-marks.ensures.value
+    (λ all p. c.deref.ensures.value ∙ p) in
     let none : c.deref-2.result.now ≡ replicate geo.pages false =
     c.deref-2.ensures.value ∙ c.fill.ensures.items (λ y h. h) ∙ ap (λ (n : ℕ). replicate n false) (omega (arith, c.in_ok-marks.marks.ok.0, c.in_ok-marks.ensures.len)) in
     later_told o o1 (g.S.Source.bytes c.walk_unmarked.new.src) geo c.args.table.now c.walk_unmarked.new.table c.walk_unmarked-2.new.table c.deref.result.now c.deref-2.result.now (map orphan_of c.in_ok-trees.trees.items) c.mark_children.ensures.kept.told (c.walk_unmarked.ensures.kept.told ∙ c.mark_children.ensures.kept.told) c.pages-pages.ensures.partition c.requires.same_pages
@@ -80,9 +88,11 @@ returns-clause-value g c =
     let o = g.S.Source.bytes c.args.src.now in
     let o1 = g.S.Source.bytes c.mark_children.new.src in
     let geo = c.args.geo.now in
-    let marked = one_told (λ all. c.in_ok-marks.marks.items ≡ with_marks (orphan_children (file_of all geo) (unused c.args.table.now)) (replicate geo.pages false))
-    (λ all. c.deref.result.now ≡ with_marks (orphan_children (file_of all geo) (unused c.args.table.now)) (replicate geo.pages false)) o
-    (λ all p. c.deref.ensures.value ∙ p) c.in_ok-marks.ensures.value in
+    let marked = IfSome_then o
+    {P = λ all. c.in_ok-marks.marks.items ≡ with_marks (orphan_children (file_of all geo) (unused c.args.table.now)) (replicate geo.pages false)}
+    {Q = λ all. c.deref.result.now ≡ with_marks (orphan_children (file_of all geo) (unused c.args.table.now)) (replicate geo.pages false)}
+    c.in_ok-marks.ensures.value
+    (λ all p. c.deref.ensures.value ∙ p) in
     let none : c.deref-2.result.now ≡ replicate geo.pages false =
     c.deref-2.ensures.value ∙ c.fill.ensures.items (λ y h. h) ∙ ap (λ (n : ℕ). replicate n false) (omega (arith, c.in_ok-marks.marks.ok.0, c.in_ok-marks.ensures.len)) in
     value_told o o1 (g.S.Source.bytes c.walk_unmarked.new.src) geo c.args.table.now c.walk_unmarked.new.table c.deref.result.now c.deref-2.result.now (map orphan_of c.in_ok-trees.trees.items)
@@ -101,9 +111,11 @@ returns-in_err-trees-clause-reads g c =
     let o = g.S.Source.bytes c.args.src.now in
     let o1 = g.S.Source.bytes c.mark_children.new.src in
     let geo = c.args.geo.now in
-    let marked = one_told (λ all. c.in_ok-marks.marks.items ≡ with_marks (orphan_children (file_of all geo) (unused c.args.table.now)) (replicate geo.pages false))
-    (λ all. c.deref.result.now ≡ with_marks (orphan_children (file_of all geo) (unused c.args.table.now)) (replicate geo.pages false)) o
-    (λ all p. c.deref.ensures.value ∙ p) c.in_ok-marks.ensures.value in
+    let marked = IfSome_then o
+    {P = λ all. c.in_ok-marks.marks.items ≡ with_marks (orphan_children (file_of all geo) (unused c.args.table.now)) (replicate geo.pages false)}
+    {Q = λ all. c.deref.result.now ≡ with_marks (orphan_children (file_of all geo) (unused c.args.table.now)) (replicate geo.pages false)}
+    c.in_ok-marks.ensures.value
+    (λ all p. c.deref.ensures.value ∙ p) in
     at_err (ReadsOrphans o geo (unused c.args.table.now) (g.S.Source.reads c.args.src.now) (g.S.Source.reads c.walk_unmarked.new.src)) c.from_residual-in_err-trees.result 0 1 c.from_residual-in_err-trees.ensures.0
     (reads_told o o1 geo c.args.table.now c.walk_unmarked.new.table (g.S.Source.reads c.args.src.now) (g.S.Source.reads c.mark_children.new.src) (g.S.Source.reads c.walk_unmarked.new.src) 1 c.mark_children.ensures.kept.told c.pages-pages.ensures.partition c.requires.same_pages c.mark_children.ensures.reads
     (first_told o o1 geo c.args.table.now c.walk_unmarked.new.table c.deref.result.now c.mark_children.ensures.kept.told c.pages-pages.ensures.partition c.requires.same_pages marked c.walk_unmarked.ensures.front) c.in_err-trees.ensures.reads)
@@ -113,9 +125,11 @@ returns-in_err-later-clause-reads g c =
     let o = g.S.Source.bytes c.args.src.now in
     let o1 = g.S.Source.bytes c.mark_children.new.src in
     let geo = c.args.geo.now in
-    let marked = one_told (λ all. c.in_ok-marks.marks.items ≡ with_marks (orphan_children (file_of all geo) (unused c.args.table.now)) (replicate geo.pages false))
-    (λ all. c.deref.result.now ≡ with_marks (orphan_children (file_of all geo) (unused c.args.table.now)) (replicate geo.pages false)) o
-    (λ all p. c.deref.ensures.value ∙ p) c.in_ok-marks.ensures.value in
+    let marked = IfSome_then o
+    {P = λ all. c.in_ok-marks.marks.items ≡ with_marks (orphan_children (file_of all geo) (unused c.args.table.now)) (replicate geo.pages false)}
+    {Q = λ all. c.deref.result.now ≡ with_marks (orphan_children (file_of all geo) (unused c.args.table.now)) (replicate geo.pages false)}
+    c.in_ok-marks.ensures.value
+    (λ all p. c.deref.ensures.value ∙ p) in
     let none : c.deref-2.result.now ≡ replicate geo.pages false =
     c.deref-2.ensures.value ∙ c.fill.ensures.items (λ y h. h) ∙ ap (λ (n : ℕ). replicate n false) (omega (arith, c.in_ok-marks.marks.ok.0, c.in_ok-marks.ensures.len)) in
     at_err (ReadsOrphans o geo (unused c.args.table.now) (g.S.Source.reads c.args.src.now) (g.S.Source.reads c.walk_unmarked-2.new.src)) c.from_residual-in_err-later.result 0 1 c.from_residual-in_err-later.ensures.0
@@ -129,9 +143,11 @@ returns-in_err-append-clause-reads g c =
     let o = g.S.Source.bytes c.args.src.now in
     let o1 = g.S.Source.bytes c.mark_children.new.src in
     let geo = c.args.geo.now in
-    let marked = one_told (λ all. c.in_ok-marks.marks.items ≡ with_marks (orphan_children (file_of all geo) (unused c.args.table.now)) (replicate geo.pages false))
-    (λ all. c.deref.result.now ≡ with_marks (orphan_children (file_of all geo) (unused c.args.table.now)) (replicate geo.pages false)) o
-    (λ all p. c.deref.ensures.value ∙ p) c.in_ok-marks.ensures.value in
+    let marked = IfSome_then o
+    {P = λ all. c.in_ok-marks.marks.items ≡ with_marks (orphan_children (file_of all geo) (unused c.args.table.now)) (replicate geo.pages false)}
+    {Q = λ all. c.deref.result.now ≡ with_marks (orphan_children (file_of all geo) (unused c.args.table.now)) (replicate geo.pages false)}
+    c.in_ok-marks.ensures.value
+    (λ all p. c.deref.ensures.value ∙ p) in
     let none : c.deref-2.result.now ≡ replicate geo.pages false =
     c.deref-2.ensures.value ∙ c.fill.ensures.items (λ y h. h) ∙ ap (λ (n : ℕ). replicate n false) (omega (arith, c.in_ok-marks.marks.ok.0, c.in_ok-marks.ensures.len)) in
     at_err (ReadsOrphans o geo (unused c.args.table.now) (g.S.Source.reads c.args.src.now) (g.S.Source.reads c.walk_unmarked-2.new.src)) c.from_residual-in_err-append.result 0 1 c.from_residual-in_err-append.ensures.0
@@ -146,9 +162,11 @@ returns-clause-reads g c =
     let o = g.S.Source.bytes c.args.src.now in
     let o1 = g.S.Source.bytes c.mark_children.new.src in
     let geo = c.args.geo.now in
-    let marked = one_told (λ all. c.in_ok-marks.marks.items ≡ with_marks (orphan_children (file_of all geo) (unused c.args.table.now)) (replicate geo.pages false))
-    (λ all. c.deref.result.now ≡ with_marks (orphan_children (file_of all geo) (unused c.args.table.now)) (replicate geo.pages false)) o
-    (λ all p. c.deref.ensures.value ∙ p) c.in_ok-marks.ensures.value in
+    let marked = IfSome_then o
+    {P = λ all. c.in_ok-marks.marks.items ≡ with_marks (orphan_children (file_of all geo) (unused c.args.table.now)) (replicate geo.pages false)}
+    {Q = λ all. c.deref.result.now ≡ with_marks (orphan_children (file_of all geo) (unused c.args.table.now)) (replicate geo.pages false)}
+    c.in_ok-marks.ensures.value
+    (λ all p. c.deref.ensures.value ∙ p) in
     let none : c.deref-2.result.now ≡ replicate geo.pages false =
     c.deref-2.ensures.value ∙ c.fill.ensures.items (λ y h. h) ∙ ap (λ (n : ℕ). replicate n false) (omega (arith, c.in_ok-marks.marks.ok.0, c.in_ok-marks.ensures.len)) in
     reads_told o o1 geo c.args.table.now c.walk_unmarked-2.new.table (g.S.Source.reads c.args.src.now) (g.S.Source.reads c.mark_children.new.src) (g.S.Source.reads c.walk_unmarked-2.new.src) 0 c.mark_children.ensures.kept.told c.pages-pages.ensures.partition c.requires.same_pages c.mark_children.ensures.reads

@@ -1,11 +1,11 @@
 use Rattle.std.proofs.Common.{◌-◌, length, drop, refl, ap, arith, length-drop, length-take}
 use Rattle.std.proofs.lemmas.Result.{IfOk-weaker}
 use Rattle.page_access.specs.Files.{file_of}
+use Rattle.page_access.proofs.Told.{always_told}
 use Rattle.page_lists.specs.Table.{unused}
 use Rattle.record_core.specs.Record.{record_of}
 use Rattle.page_walk.specs.Cells.{missing, turn_from}
 use Rattle.page_walk.proofs.Fronts.{moves_none}
-use Rattle.page_walk.proofs.Going.{always_told}
 use Rattle.page_walk.proofs.Local.{local_small, local_value}
 use Rattle.page_walk.proofs.Small.{entry_small, taken_pages}
 use Rattle.page_walk.proofs.entries.take_entry.Goals as goal

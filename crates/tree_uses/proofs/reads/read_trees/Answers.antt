@@ -1,12 +1,12 @@
 use Rattle.std.proofs.Common.{◌≡◌, ℕ, List, ◌∙◌, ap, length, map, subst, sym}
 use Rattle.std.specs.List.{AllByRecursion, flat_map}
 use Rattle.std.proofs.lemmas.List.{length-map}
+use Rattle.std.proofs.lemmas.Option.{IfSome_then}
 use Rattle.page_access.specs.Files.{file_of}
 use Rattle.page_lists.specs.Table.{all_moved, unused}
 use Rattle.page_walk.specs.Bounds.{ArePages}
 use Rattle.page_walk.specs.InTurn.{IsSmallTurn, turn_of}
 use Rattle.page_walk.specs.Turns.{turns_on}
-use Rattle.page_walk.proofs.Going.{one_told}
 use Rattle.tree_uses.specs.Trees.{HaveTurns, chains_in, pages_in, split_turns, tree_of, turns_in, turns_of}
 use Rattle.tree_uses.proofs.Splits.{pages_are, split_all, split_are, split_chains, split_each, split_len}
 use Rattle.tree_uses.proofs.reads.read_trees.Goals as goal
@@ -21,11 +21,12 @@ returns-clause-value g c =
     let trees = map tree_of c.args.trees.now in
     let u = unused c.args.table.now in
     let same : c.deref.result.now ≡ pages_in trees = c.deref.ensures.value ∙ c.in_ok-pages.ensures in
-    one_told (λ all. map turn_of c.in_ok-turns.turns.items ≡ turns_on (file_of all c.args.geo.now) c.deref.result.now u)
-    (λ all. map turns_of c.in_ok-split_turns.field-0.items ≡ turns_in (file_of all c.args.geo.now) trees u)
-    (g.S.Source.bytes c.args.src.now)
+    IfSome_then (g.S.Source.bytes c.args.src.now)
+    {P = λ all. map turn_of c.in_ok-turns.turns.items ≡ turns_on (file_of all c.args.geo.now) c.deref.result.now u}
+    {Q = λ all. map turns_of c.in_ok-split_turns.field-0.items ≡ turns_in (file_of all c.args.geo.now) trees u}
+    c.in_ok-turns.ensures.value
     (λ all p. c.in_ok-split_turns.ensures ∙ ap (split_turns trees) (p ∙ ap (λ (ps : List ℕ). turns_on (file_of all c.args.geo.now) ps u) same)
-    ∙ split_are (file_of all c.args.geo.now) trees u) c.in_ok-turns.ensures.value
+    ∙ split_are (file_of all c.args.geo.now) trees u)
 
 pub returns-clause-moved : goal.returns-clause-moved
 returns-clause-moved g c =

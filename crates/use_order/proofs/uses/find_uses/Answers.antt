@@ -1,11 +1,11 @@
 use Rattle.std.proofs.Common.{◌≡◌, ◌+◌, ◌<◌, ◌^◌, List, ◌∙◌, ap, length, map, subst, sym, arith}
 use Rattle.std.specs.List.{AllByRecursion}
 use Rattle.std.proofs.lemmas.List.{length-map}
+use Rattle.std.proofs.lemmas.Option.{IfSome_then}
 use Rattle.page_access.specs.Files.{file_of}
 use Rattle.page_lists.specs.Table.{unused}
 use Rattle.overflow_chain.specs.declared.TheConstants.{OVERFLOW_LIST}
 use Rattle.page_walk.specs.Turns.{ReadsEach}
-use Rattle.page_walk.proofs.Going.{one_told}
 use Rattle.raw_schema.specs.Bounds.{sql_len}
 use Rattle.raw_schema.specs.declared.rows.SchemaRow.{SchemaRow}
 use Rattle.tree_uses.specs.Trees.{HaveTurns, Tree, pages_in, tree_of, turns_in, turns_of, walks, wanted_row}
@@ -57,21 +57,23 @@ returns-clause-order g c =
     (c.walk_trees-2.ensures.kept.told ∙ c.walk_trees.ensures.kept.told ∙ c.read_schema.ensures.kept.told)
     c.requires.kinds c.in_ok-schema.ensures.rows c.in_ok-schema.ensures.table
     (subst (λ (xs : List SchemaRow). AreReadings c.args.survey.now geo.pages xs rs) c.deref.ensures.value c.in_ok-readings.ensures)
-    (one_told (λ all. map tree_of c.in_ok-tables.tables.items ≡ walks (file_of all geo) 2 c.deref-3.result.now (unused c.read_schema.new.table))
-    (λ all. map tree_of c.in_ok-tables.tables.items ≡ walks (file_of all geo) 2 (map table_tree rs) (unused c.read_schema.new.table))
-    (told c.read_schema.new.src) (λ all p. p ∙ ap (λ (ws : List WantedTree). walks (file_of all geo) 2 ws (unused c.read_schema.new.table)) wanted)
-    c.in_ok-tables.ensures.value)
+    (IfSome_then (told c.read_schema.new.src)
+    {P = λ all. map tree_of c.in_ok-tables.tables.items ≡ walks (file_of all geo) 2 c.deref-3.result.now (unused c.read_schema.new.table)}
+    {Q = λ all. map tree_of c.in_ok-tables.tables.items ≡ walks (file_of all geo) 2 (map table_tree rs) (unused c.read_schema.new.table)}
+    c.in_ok-tables.ensures.value
+    (λ all p. p ∙ ap (λ (ws : List WantedTree). walks (file_of all geo) 2 ws (unused c.read_schema.new.table)) wanted))
     c.in_ok-tables.ensures.moved
-    (one_told (λ all. map tree_of c.in_ok-indexes.indexes.items ≡ walks (file_of all geo) 3 c.deref-5.result.now (unused c.walk_trees.new.table))
-    (λ all. map tree_of c.in_ok-indexes.indexes.items ≡ walks (file_of all geo) 3 (index_trees 0 rows) (unused c.walk_trees.new.table))
-    (told c.walk_trees.new.src) (λ all p. p ∙ ap (λ (ws : List WantedTree). walks (file_of all geo) 3 ws (unused c.walk_trees.new.table)) named)
-    c.in_ok-indexes.ensures.value)
+    (IfSome_then (told c.walk_trees.new.src)
+    {P = λ all. map tree_of c.in_ok-indexes.indexes.items ≡ walks (file_of all geo) 3 c.deref-5.result.now (unused c.walk_trees.new.table)}
+    {Q = λ all. map tree_of c.in_ok-indexes.indexes.items ≡ walks (file_of all geo) 3 (index_trees 0 rows) (unused c.walk_trees.new.table)}
+    c.in_ok-indexes.ensures.value
+    (λ all p. p ∙ ap (λ (ws : List WantedTree). walks (file_of all geo) 3 ws (unused c.walk_trees.new.table)) named))
     c.in_ok-indexes.ensures.moved
-    (one_told (λ all. map turns_of c.in_ok-turns.turns.items ≡ turns_in (file_of all geo) (map tree_of c.deref-6.result.now) (unused c.walk_trees-2.new.table))
-    (λ all. map turns_of c.in_ok-turns.turns.items ≡ turns_in (file_of all geo) (map tree_of c.in_ok-tables.tables.items) (unused c.walk_trees-2.new.table))
-    (told c.walk_trees-2.new.src)
-    (λ all p. p ∙ ap (λ (ts : List Tree). turns_in (file_of all geo) ts (unused c.walk_trees-2.new.table)) (ap (map tree_of) c.deref-6.ensures.value))
-    c.in_ok-turns.ensures.value)
+    (IfSome_then (told c.walk_trees-2.new.src)
+    {P = λ all. map turns_of c.in_ok-turns.turns.items ≡ turns_in (file_of all geo) (map tree_of c.deref-6.result.now) (unused c.walk_trees-2.new.table)}
+    {Q = λ all. map turns_of c.in_ok-turns.turns.items ≡ turns_in (file_of all geo) (map tree_of c.in_ok-tables.tables.items) (unused c.walk_trees-2.new.table)}
+    c.in_ok-turns.ensures.value
+    (λ all p. p ∙ ap (λ (ts : List Tree). turns_in (file_of all geo) ts (unused c.walk_trees-2.new.table)) (ap (map tree_of) c.deref-6.ensures.value)))
 
 pub returns-in_err-schema-clause-moves : goal.returns-in_err-schema-clause-moves
 returns-in_err-schema-clause-moves g c =

@@ -4,3 +4,4 @@ pub mod Many
 pub mod Told
 pub mod ClassTests
 pub mod Cuts
+pub mod Keywords

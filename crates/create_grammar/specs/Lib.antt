@@ -4,5 +4,6 @@ pub mod Sorts
 pub mod Roles
 pub mod Classes
 pub mod Grammar
+pub mod Keywords
 pub mod Pass
 pub mod Said

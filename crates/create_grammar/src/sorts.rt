@@ -1,7 +1,8 @@
 //! The sorts of words.
 
-ghost use Rattle.std.specs.Prelude.{◌≡◌};
-ghost use Rattle.create_grammar.specs.Sorts.{code, keyword_1, keyword_2, keyword_3, keyword_4, mark_sort, is_word, sort_of, word_bytes};
+ghost use Rattle.std.specs.Prelude.{◌≡◌, length};
+ghost use Rattle.create_grammar.specs.Keywords.{keyword_of, two_letters, three_letters, four_letters, five_letters, six_letters, seven_letters, eight_letters, nine_letters, ten_letters, thirteen_letters};
+ghost use Rattle.create_grammar.specs.Sorts.{code, keyword_1, mark_sort, is_word, sort_of, word_bytes};
 
 use crate::spans::{Word, WordKind};
 
@@ -90,7 +91,7 @@ pub fn sort_of(sql: &[u8], word: Word) -> Sort
     ensures { result ≡ sort_of sql.now word }
 {
     match word.kind {
-        WordKind::Bare => keyword_1(word_bytes(sql, word)),
+        WordKind::Bare => keyword(word_bytes(sql, word)),
         WordKind::Quoted => Sort::Quoted,
         WordKind::Text => Sort::Text,
         WordKind::Number => Sort::Number,
@@ -125,115 +126,194 @@ fn mark_sort(byte: u8) -> Sort
     }
 }
 
-#[tactic(auto, unfolding(crate::specs::Sorts::keyword_1))]
-fn keyword_1(bytes: &[u8]) -> Sort
+// The sort of a bare word: only the keywords of its length are compared.
+fn keyword(bytes: &[u8]) -> Sort
     ensures { result ≡ keyword_1 bytes.now }
+{
+    keyword_by_length(bytes)
+}
+
+fn keyword_by_length(bytes: &[u8]) -> Sort
+    ensures { result ≡ keyword_of (length bytes.now) bytes.now }
+{
+    match bytes.len() {
+        2 => two_letters(bytes),
+        3 => three_letters(bytes),
+        4 => four_letters(bytes),
+        5 => five_letters(bytes),
+        6 => six_letters(bytes),
+        7 => seven_letters(bytes),
+        8 => eight_letters(bytes),
+        9 => nine_letters(bytes),
+        10 => ten_letters(bytes),
+        13 => thirteen_letters(bytes),
+        _ => Sort::Bare,
+    }
+}
+
+#[tactic(auto, unfolding(crate::specs::Keywords::two_letters))]
+fn two_letters(bytes: &[u8]) -> Sort
+    ensures { result ≡ two_letters bytes.now }
+{
+    if is_word(bytes, b"AS") {
+        Sort::As
+    } else if is_word(bytes, b"ON") {
+        Sort::On
+    } else if is_word(bytes, b"NO") {
+        Sort::No
+    } else {
+        Sort::Bare
+    }
+}
+
+#[tactic(auto, unfolding(crate::specs::Keywords::three_letters))]
+fn three_letters(bytes: &[u8]) -> Sort
+    ensures { result ≡ three_letters bytes.now }
+{
+    if is_word(bytes, b"KEY") {
+        Sort::Key
+    } else if is_word(bytes, b"NOT") {
+        Sort::Not
+    } else if is_word(bytes, b"ASC") {
+        Sort::Asc
+    } else if is_word(bytes, b"SET") {
+        Sort::Set
+    } else {
+        Sort::Bare
+    }
+}
+
+#[tactic(auto, unfolding(crate::specs::Keywords::four_letters))]
+fn four_letters(bytes: &[u8]) -> Sort
+    ensures { result ≡ four_letters bytes.now }
+{
+    if is_word(bytes, b"NULL") {
+        Sort::Null
+    } else if is_word(bytes, b"DESC") {
+        Sort::Desc
+    } else {
+        Sort::Bare
+    }
+}
+
+#[tactic(auto, unfolding(crate::specs::Keywords::five_letters))]
+fn five_letters(bytes: &[u8]) -> Sort
+    ensures { result ≡ five_letters bytes.now }
+{
+    if is_word(bytes, b"TABLE") {
+        Sort::Table
+    } else if is_word(bytes, b"ROWID") {
+        Sort::Rowid
+    } else if is_word(bytes, b"CHECK") {
+        Sort::Check
+    } else if is_word(bytes, b"MATCH") {
+        Sort::Match
+    } else {
+        Sort::Bare
+    }
+}
+
+#[tactic(auto, unfolding(crate::specs::Keywords::six_letters))]
+fn six_letters(bytes: &[u8]) -> Sort
+    ensures { result ≡ six_letters bytes.now }
 {
     if is_word(bytes, b"CREATE") {
         Sort::Create
-    } else if is_word(bytes, b"TABLE") {
-        Sort::Table
-    } else if is_word(bytes, b"VIRTUAL") {
-        Sort::Virtual
-    } else if is_word(bytes, b"WITHOUT") {
-        Sort::Without
-    } else if is_word(bytes, b"ROWID") {
-        Sort::Rowid
     } else if is_word(bytes, b"STRICT") {
         Sort::Strict
-    } else if is_word(bytes, b"CONSTRAINT") {
-        Sort::Constraint
-    } else if is_word(bytes, b"PRIMARY") {
-        Sort::Primary
-    } else if is_word(bytes, b"KEY") {
-        Sort::Key
     } else if is_word(bytes, b"UNIQUE") {
         Sort::Unique
-    } else {
-        keyword_2(bytes)
-    }
-}
-
-#[tactic(auto, unfolding(crate::specs::Sorts::keyword_2))]
-fn keyword_2(bytes: &[u8]) -> Sort
-    ensures { result ≡ keyword_2 bytes.now }
-{
-    if is_word(bytes, b"CHECK") {
-        Sort::Check
-    } else if is_word(bytes, b"FOREIGN") {
-        Sort::Foreign
-    } else if is_word(bytes, b"NOT") {
-        Sort::Not
-    } else if is_word(bytes, b"NULL") {
-        Sort::Null
-    } else if is_word(bytes, b"DEFAULT") {
-        Sort::Default
-    } else if is_word(bytes, b"COLLATE") {
-        Sort::Collate
-    } else if is_word(bytes, b"REFERENCES") {
-        Sort::References
-    } else if is_word(bytes, b"GENERATED") {
-        Sort::Generated
     } else if is_word(bytes, b"ALWAYS") {
         Sort::Always
-    } else if is_word(bytes, b"AS") {
-        Sort::As
-    } else {
-        keyword_3(bytes)
-    }
-}
-
-#[tactic(auto, unfolding(crate::specs::Sorts::keyword_3))]
-fn keyword_3(bytes: &[u8]) -> Sort
-    ensures { result ≡ keyword_3 bytes.now }
-{
-    if is_word(bytes, b"STORED") {
+    } else if is_word(bytes, b"STORED") {
         Sort::Stored
-    } else if is_word(bytes, b"DEFERRABLE") {
-        Sort::Deferrable
-    } else if is_word(bytes, b"INITIALLY") {
-        Sort::Initially
-    } else if is_word(bytes, b"DEFERRED") {
-        Sort::Deferred
-    } else if is_word(bytes, b"IMMEDIATE") {
-        Sort::Immediate
-    } else if is_word(bytes, b"ASC") {
-        Sort::Asc
-    } else if is_word(bytes, b"DESC") {
-        Sort::Desc
-    } else if is_word(bytes, b"AUTOINCREMENT") {
-        Sort::Autoincrement
-    } else if is_word(bytes, b"ON") {
-        Sort::On
-    } else if is_word(bytes, b"CONFLICT") {
-        Sort::Conflict
-    } else {
-        keyword_4(bytes)
-    }
-}
-
-#[tactic(auto, unfolding(crate::specs::Sorts::keyword_4))]
-fn keyword_4(bytes: &[u8]) -> Sort
-    ensures { result ≡ keyword_4 bytes.now }
-{
-    if is_word(bytes, b"DELETE") {
+    } else if is_word(bytes, b"DELETE") {
         Sort::Delete
     } else if is_word(bytes, b"UPDATE") {
         Sort::Update
     } else if is_word(bytes, b"INSERT") {
         Sort::Insert
-    } else if is_word(bytes, b"SET") {
-        Sort::Set
-    } else if is_word(bytes, b"CASCADE") {
-        Sort::Cascade
-    } else if is_word(bytes, b"RESTRICT") {
-        Sort::Restrict
-    } else if is_word(bytes, b"NO") {
-        Sort::No
     } else if is_word(bytes, b"ACTION") {
         Sort::Action
-    } else if is_word(bytes, b"MATCH") {
-        Sort::Match
+    } else {
+        Sort::Bare
+    }
+}
+
+#[tactic(auto, unfolding(crate::specs::Keywords::seven_letters))]
+fn seven_letters(bytes: &[u8]) -> Sort
+    ensures { result ≡ seven_letters bytes.now }
+{
+    if is_word(bytes, b"VIRTUAL") {
+        Sort::Virtual
+    } else if is_word(bytes, b"WITHOUT") {
+        Sort::Without
+    } else if is_word(bytes, b"PRIMARY") {
+        Sort::Primary
+    } else if is_word(bytes, b"FOREIGN") {
+        Sort::Foreign
+    } else if is_word(bytes, b"DEFAULT") {
+        Sort::Default
+    } else if is_word(bytes, b"COLLATE") {
+        Sort::Collate
+    } else if is_word(bytes, b"CASCADE") {
+        Sort::Cascade
+    } else {
+        Sort::Bare
+    }
+}
+
+#[tactic(auto, unfolding(crate::specs::Keywords::eight_letters))]
+fn eight_letters(bytes: &[u8]) -> Sort
+    ensures { result ≡ eight_letters bytes.now }
+{
+    if is_word(bytes, b"DEFERRED") {
+        Sort::Deferred
+    } else if is_word(bytes, b"CONFLICT") {
+        Sort::Conflict
+    } else if is_word(bytes, b"RESTRICT") {
+        Sort::Restrict
+    } else {
+        Sort::Bare
+    }
+}
+
+#[tactic(auto, unfolding(crate::specs::Keywords::nine_letters))]
+fn nine_letters(bytes: &[u8]) -> Sort
+    ensures { result ≡ nine_letters bytes.now }
+{
+    if is_word(bytes, b"GENERATED") {
+        Sort::Generated
+    } else if is_word(bytes, b"INITIALLY") {
+        Sort::Initially
+    } else if is_word(bytes, b"IMMEDIATE") {
+        Sort::Immediate
+    } else {
+        Sort::Bare
+    }
+}
+
+#[tactic(auto, unfolding(crate::specs::Keywords::ten_letters))]
+fn ten_letters(bytes: &[u8]) -> Sort
+    ensures { result ≡ ten_letters bytes.now }
+{
+    if is_word(bytes, b"CONSTRAINT") {
+        Sort::Constraint
+    } else if is_word(bytes, b"REFERENCES") {
+        Sort::References
+    } else if is_word(bytes, b"DEFERRABLE") {
+        Sort::Deferrable
+    } else {
+        Sort::Bare
+    }
+}
+
+#[tactic(auto, unfolding(crate::specs::Keywords::thirteen_letters))]
+fn thirteen_letters(bytes: &[u8]) -> Sort
+    ensures { result ≡ thirteen_letters bytes.now }
+{
+    if is_word(bytes, b"AUTOINCREMENT") {
+        Sort::Autoincrement
     } else {
         Sort::Bare
     }

@@ -1,6 +1,6 @@
 //! Which constraints take a number.
 
-ghost use Rattle.std.specs.Prelude.{◌≡◌, IfOk, List, false, map, option_map, slice_get};
+ghost use Rattle.std.specs.Prelude.{◌≡◌, IfOk, List, false, length, map, nat_eq, option_map, slice_get};
 ghost use Rattle.std.specs.List.{list_any};
 ghost use Rattle.create_reader.specs.Numbers.{integer_in, is_among, makes_alias, numbered_of, only_column, same_names, single_integer, takes, up_to_16};
 ghost use Rattle.create_reader.specs.Constraints.{Constraint};
@@ -32,12 +32,19 @@ pub fn numbered<'a>(
             known = known_behind(alloc, table, index, known, constraint)?;
             continue;
         }
-        if found.len() == 16 {
+        if is_full(found.as_slice()) {
             return Ok(None);
         }
         found.push(constraint)?;
     }
     Ok(Some(found))
+}
+
+// Whether as many constraints took a number as may.
+fn is_full(taken: &[&ConstraintText]) -> bool
+    ensures { result ≡ nat_eq (length taken.now) 16 }
+{
+    taken.len() == 16
 }
 
 // Whether a constraint takes a number. A constraint of the column `known` has the names of one that took one.

@@ -1,7 +1,7 @@
 -- The maps of a run answer what the definition says of the kept rows.
 use Rattle.std.proofs.Common.{◌≡◌, refl, sym, ap, subst, ◌∙◌, ℕ, zero, suc, Bool, true, false, not, ◌&&◌, cond, if◌then◌else◌, Option, Some, None, option_map, List, [], ◌∷◌, ◌++◌, length, map, inl, inr, ◌+◌, ◌<◌, get_or, arith, take, take-add, drop}
 use Rattle.std.specs.Prelude.{slice_set}
-use Rattle.std.specs.Map.{lookup}
+use Rattle.std.specs.Map.{lookup, remove_entry}
 use Rattle.std.specs.BTreeMap.{get, insert_entry, is_at}
 use Rattle.std.specs.Cmp.Lexicographic.{slice_cmp}
 use Rattle.std.specs.List.{AllByRecursion}
@@ -18,14 +18,14 @@ use Rattle.table_shape.specs.Keys.{KeyParts, Keys, StoredRow, clash_by, fits, ha
 use Rattle.page_walk.specs.declared.outcomes.Place.{Place}
 use Rattle.page_walk.specs.declared.outcomes.TakenCell.{TakenCell}
 use Rattle.page_walk.specs.Cells.{Row, row_of}
-use Rattle.table_fill.specs.declared.chooses.CellKeys.{CellKeys}
 use Rattle.table_fill.specs.declared.chooses.Filling.{Filling}
-use Rattle.table_fill.specs.declared.fates.Fate.TheVariants.{Misfit}
+use Rattle.table_fill.specs.declared.fates.Fate.{Fate}
+use Rattle.table_fill.specs.declared.fates.Fate.TheVariants.{Clash, Misfit}
 use Rattle.table_fill.specs.declared.fates.LeftCell.{LeftCell}
 use Rattle.table_fill.specs.declared.maps.KeyMap.{KeyMap}
 use Rattle.table_fill.specs.Chosen.{AreSorted, left_seen}
 use Rattle.table_fill.specs.Fates.{Left, Sorted, clash_among, clash_in, clash_or, fate_of, first_unordered, held, nothing, place_of, place_where, row_key, same_among, sorted_of, with_cell, with_cells, with_fate}
-use Rattle.table_fill.specs.Maps.{AddedBy, AddedByAll, AreKeysOf, Holds, Shows, clash_by_keys, found_by, has_key, key_in, keys_in, place_at, place_by, place_with, row_at}
+use Rattle.table_fill.specs.Maps.{AddedBy, AddedByAll, Holds, Shows, TakeIn, TakenIn, found_by, has_key, key_in, keys_by, keys_in, place_at, place_by, place_with, row_at}
 
 -- ---- looking up
 
@@ -100,16 +100,23 @@ among_is kept (m ∷ maps) r h =
 pub fate_misfit : (t : Keys) (kept : List Row) (r : Row) → fits t (held r) ≡ false → Some Misfit ≡ fate_of t kept r
 fate_misfit t kept r e = rw e refl
 
--- the fate of a cell that fits is what all maps answer for its keys
-pub fate_is : (t : Keys) (s : Sorted) (f : Filling) (r : Row) (k : CellKeys) → Shows t s f → fits t (held r) ≡ true
-    → AreKeysOf t f.maps.items r k → clash_by_keys f k ≡ fate_of t s.kept r
-fate_is t s f r k sh e keys =
-    rw e (ap (λ (q : Folds). clash_or (option_map (λ c. c.place) (get (slice_cmp value_cmp) f.rows q)) 0
-    (found_by f.maps.items k.others.items)) keys.first
-    ∙ ap (λ o. clash_or o 0 (found_by f.maps.items k.others.items)) (first_is t s f r sh)
-    ∙ ap (λ qs. clash_or (same_among t.first s.kept (held r)) 0 (found_by f.maps.items qs)) keys.others
-    ∙ ap (clash_or (same_among t.first s.kept (held r)) 0) (among_is s.kept f.maps.items r sh.maps
-    ∙ ap (λ ks. clash_in ks s.kept (held r)) sh.keys))
+-- a row before it has its key that orders the rows
+pub fate_first : (t : Keys) (s : Sorted) (f : Filling) (r : Row) (key : Folds) (row : TakenCell) → Shows t s f
+    → fits t (held r) ≡ true → key ≡ row_key t r → Some row ≡ get (slice_cmp value_cmp) f.rows key
+    → fate_of t s.kept r ≡ Some (Clash row.place 0)
+fate_first t s f r key row sh e is found =
+    rw e (ap (λ o. clash_or o 0 (clash_in t.keys s.kept (held r)))
+    (sym (ap (option_map (λ c. c.place)) (found ∙ ap (get (slice_cmp value_cmp) f.rows) is) ∙ first_is t s f r sh)))
+
+-- none has it, so the further keys tell
+pub fate_other : (t : Keys) (s : Sorted) (f : Filling) (r : Row) (key : Folds) (fate : Option Fate) → Shows t s f
+    → fits t (held r) ≡ true → key ≡ row_key t r → None ≡ get (slice_cmp value_cmp) f.rows key
+    → fate ≡ clash_in (keys_by f.maps.items) s.kept (held r)
+    → fate_of t s.kept r ≡ fate
+fate_other t s f r key fate sh e is found told =
+    rw e (ap (λ o. clash_or o 0 (clash_in t.keys s.kept (held r)))
+    (sym (ap (option_map (λ (c : TakenCell). c.place)) (found ∙ ap (get (slice_cmp value_cmp) f.rows) is) ∙ first_is t s f r sh))
+    ∙ sym (told ∙ ap (λ ks. clash_in ks s.kept (held r)) sh.keys))
 
 -- ---- one row more
 
@@ -151,8 +158,7 @@ all_hold_more kept r (m ∷ ms) [] a h = absurd a
 all_hold_more kept r (m ∷ ms) (w ∷ ws) a h =
     (holds_more kept r m w a.0 h.0, all_hold_more kept r ms ws a.1 h.1)
 
-same_keys : (r : Row) (ms ws : List KeyMap) → AddedByAll (keys_in ms r) (place_of r) ms ws
-    → map (λ (m : KeyMap). parts_seen m.plan.now) ws ≡ map (λ (m : KeyMap). parts_seen m.plan.now) ms
+same_keys : (r : Row) (ms ws : List KeyMap) → AddedByAll (keys_in ms r) (place_of r) ms ws → keys_by ws ≡ keys_by ms
 same_keys r [] [] a = refl
 same_keys r [] (w ∷ ws) a = absurd a
 same_keys r (m ∷ ms) [] a = absurd a
@@ -160,16 +166,30 @@ same_keys r (m ∷ ms) (w ∷ ws) a =
     ap (λ p. parts_seen p.now ∷ map (λ (m : KeyMap). parts_seen m.plan.now) ws) a.0.plan
     ∙ ap (λ (ks : List KeyParts). parts_seen m.plan.now ∷ ks) (same_keys r ms ws a.1)
 
+-- a clash leaves the maps as they were
+pub in_clash : (r : Row) (ms : List KeyMap) (fate : Fate) → Some fate ≡ found_by ms (keys_in ms r)
+    → TakeIn r (Some fate) ms ms
+in_clash r ms fate found = λ kept h. record { fate_is = found ∙ among_is kept ms r h; keys = refl; rows = h }
+
+-- without one they have the row
+pub in_all : (r : Row) (ms ws : List KeyMap) → None ≡ found_by ms (keys_in ms r)
+    → AddedByAll (keys_in ms r) (place_of r) ms ws → TakeIn r None ms ws
+in_all r ms ws found added = λ kept h. record {
+  fate_is = found ∙ among_is kept ms r h;
+  keys = same_keys r ms ws added;
+  rows = all_hold_more kept r ms ws added h;
+}
+
 -- what a run shows with one row more
-pub shows_kept : (t : Keys) (s : Sorted) (old : Filling) (maps : List KeyMap) (new : Filling) (cell : TakenCell) (key : Folds)
+pub shows_kept : (t : Keys) (s : Sorted) (old new : Filling) (cell : TakenCell) (key : Folds)
     → Shows t s old → key ≡ row_key t (row_of cell)
-    → AddedByAll (keys_in old.maps.items (row_of cell)) cell.place old.maps.items maps → new.maps.items ≡ maps
+    → TakenIn (row_of cell) None s.kept old.maps.items new.maps.items
     → new.rows.entries ≡ insert_entry (slice_cmp value_cmp) old.rows.entries key cell
     → ((q : Folds) → get (slice_cmp value_cmp) new.rows q
     ≡ cond (is_at (slice_cmp value_cmp key) q) (Some cell) (get (slice_cmp value_cmp) old.rows q))
     → new.left.items ≡ old.left.items
     → Shows t (with_fate s (row_of cell) None) new
-shows_kept t s old maps new cell key sh is added maps_are entries updates left =
+shows_kept t s old new cell key sh is taken entries updates left =
     let r = row_of cell in
     record {
       entries = ap (map (λ e. (e.0, row_of e.1))) entries
@@ -180,10 +200,36 @@ shows_kept t s old maps new cell key sh is added maps_are entries updates left =
           ∙ some_or row_of (is_eq (slice_cmp value_cmp key q)) cell (get (slice_cmp value_cmp) old.rows q)
           ∙ ap (λ (o : Option Row). if is_eq (slice_cmp value_cmp key q) then Some r else o) (sh.first q)
           ∙ ap (λ (k : Folds). if is_eq (slice_cmp value_cmp k q) then Some r else row_at t.first s.kept q) is;
-      keys = ap (map (λ m. parts_seen m.plan.now)) maps_are ∙ same_keys r old.maps.items maps added ∙ sh.keys;
-      maps = subst (AllByRecursion (Holds (r ∷ s.kept))) (sym maps_are) (all_hold_more s.kept r old.maps.items maps added sh.maps);
+      keys = taken.keys ∙ sh.keys;
+      maps = taken.rows;
       left = ap (map left_seen) left ∙ sh.left;
     }
+
+-- an entry has one value
+pub one_value : {X : Type 0} (o : Option X) (x y : X) → o ≡ Some x → o ≡ Some y → x ≡ y
+one_value o x y is same = cc
+
+-- nothing is taken out where there is nothing
+pub absent_stays : {K X : Type 0} (test : K → Bool) (es : List (K × X)) → lookup test es ≡ None → remove_entry test es ≡ es
+absent_stays test [] none = refl
+absent_stays {K} {X} test (e ∷ es) none = at (test e.0) none (absent_stays test es)
+  where
+    at : (b : Bool) → cond b (Some e.1) (lookup test es) ≡ None → (lookup test es ≡ None → remove_entry test es ≡ es)
+        → cond b es (e ∷ remove_entry test es) ≡ e ∷ es
+    at true h f = absurd (cc)
+    at false h f = ap (λ (xs : List (K × X)). e ∷ xs) (f h)
+
+-- what it shows where it has the same rows as before
+pub shows_same : (t : Keys) (s : Sorted) (old new : Filling) → Shows t s old
+    → new.rows.entries ≡ old.rows.entries → keys_by new.maps.items ≡ keys_by old.maps.items
+    → AllByRecursion (Holds s.kept) new.maps.items → new.left.items ≡ old.left.items → Shows t s new
+shows_same t s old new sh rows keys maps left = record {
+  entries = ap (map (λ (e : Folds × TakenCell). (e.0, row_of e.1))) rows ∙ sh.entries;
+  first = λ q. ap (λ (es : List (Folds × TakenCell)). option_map row_of (lookup (is_at (slice_cmp value_cmp q)) es)) rows ∙ sh.first q;
+  keys = keys ∙ sh.keys;
+  maps = maps;
+  left = ap (map left_seen) left ∙ sh.left;
+}
 
 pub map_push : {X Y : Type 0} (f : X → Y) (xs : List X) (x : X) → map f (xs ++ x ∷ []) ≡ map f xs ++ f x ∷ []
 map_push f [] x = refl

@@ -10,15 +10,15 @@ use Rattle.key_order.specs.Order.{value_cmp}
 use Rattle.record_core.specs.declared.values.Value.{Value}
 use Rattle.table_shape.specs.declared.keys.KeyPart.{KeyPart}
 use Rattle.table_shape.specs.Entries.{in_order}
-use Rattle.table_shape.specs.Keys.{Keys, has_null, key_of, parts_seen}
+use Rattle.table_shape.specs.Keys.{KeyParts, Keys, has_null, key_of, parts_seen}
 use Rattle.page_walk.specs.declared.outcomes.Place.{Place}
 use Rattle.page_walk.specs.Cells.{Row, row_of}
 use Rattle.table_fill.specs.declared.fates.Fate.{Fate}
+use Rattle.table_fill.specs.declared.fates.LeftCell.{LeftCell}
 use Rattle.table_fill.specs.declared.maps.KeyMap.{KeyMap}
-use Rattle.table_fill.specs.declared.chooses.CellKeys.{CellKeys}
 use Rattle.table_fill.specs.declared.chooses.Filling.{Filling}
 use Rattle.table_fill.specs.Chosen.{left_seen}
-use Rattle.table_fill.specs.Fates.{Sorted, clash_or, held, place_where, row_key}
+use Rattle.table_fill.specs.Fates.{Sorted, clash_in, clash_or, fate_of, held, place_where, row_key, with_fate}
 
 -- the latest row with these folded fields by the key that orders the rows
 abbrev pub row_at : List KeyPart → List Row → List Value → Option Row
@@ -43,11 +43,6 @@ key_in m r = let parts = m.plan.now.parts.items in
 abbrev pub keys_in : List KeyMap → Row → List (Option Folds)
 keys_in maps r = map (λ m. key_in m r) maps
 
--- the keys of a row, each made once
-pub record AreKeysOf (t : Keys) (maps : List KeyMap) (r : Row) (k : CellKeys) : Type 0 where
-  pub first : k.first ≡ row_key t r
-  pub others : k.others.items ≡ keys_in maps r
-
 -- what a map answers for a key
 abbrev pub place_by : KeyMap → Option Folds → Option Place
 place_by m None = None
@@ -58,11 +53,6 @@ abbrev pub found_by : List KeyMap → List (Option Folds) → Option Fate
 found_by [] keys = None
 found_by (m ∷ maps) [] = None
 found_by (m ∷ maps) (k ∷ keys) = clash_or (place_by m k) m.plan.now.number (found_by maps keys)
-
--- what all maps of a run answer for the keys of a cell
-abbrev pub clash_by_keys : Filling → CellKeys → Option Fate
-clash_by_keys f k = clash_or (option_map (λ t. t.place) (get (slice_cmp value_cmp) f.rows k.first)) 0
-    (found_by f.maps.items k.others.items)
 
 -- a map holds the rows by its key
 abbrev pub Holds : List Row → KeyMap → Type 0
@@ -87,11 +77,34 @@ AddedByAll keys place (m ∷ old) [] = ⊥
 AddedByAll [] place (m ∷ old) (w ∷ new) = (w ≡ m) × AddedByAll [] place old new
 AddedByAll (k ∷ keys) place (m ∷ old) (w ∷ new) = AddedBy k place m w × AddedByAll keys place old new
 
+-- the keys of maps
+abbrev pub keys_by : List KeyMap → List KeyParts
+keys_by maps = map (λ m. parts_seen m.plan.now) maps
+
+-- the kept rows with one more, where it has no other fate
+abbrev pub kept_with : Row → Option Fate → List Row → List Row
+kept_with r None kept = r ∷ kept
+kept_with r (Some fate) kept = kept
+
+-- maps that hold these rows were given one more: its clash by a key with a number, or else they hold it too
+pub record TakenIn (r : Row) (fate : Option Fate) (kept : List Row) (old new : List KeyMap) : Type 0 where
+  pub fate_is : fate ≡ clash_in (keys_by old) kept (held r)
+  pub keys : keys_by new ≡ keys_by old
+  pub rows : AllByRecursion (Holds (kept_with r fate kept)) new
+
+abbrev pub TakeIn : Row → Option Fate → List KeyMap → List KeyMap → Type 0
+TakeIn r fate old new = (kept : List Row) → AllByRecursion (Holds kept) old → TakenIn r fate kept old new
+
 -- the maps and lists of a run show what was sorted out
 pub record Shows (t : Keys) (s : Sorted) (f : Filling) : Type 0 where
   pub entries : map (λ e. (e.0, row_of e.1)) f.rows.entries ≡ in_order (row_key t) s.kept
   pub first : (key : List Value)
       → option_map row_of (get (slice_cmp value_cmp) f.rows key) ≡ row_at t.first s.kept key
-  pub keys : map (λ m. parts_seen m.plan.now) f.maps.items ≡ t.keys
+  pub keys : keys_by f.maps.items ≡ t.keys
   pub maps : AllByRecursion (Holds s.kept) f.maps.items
   pub left : map left_seen f.left.items ≡ s.left
+
+-- a run was given a cell that fits: it has the row, or gives the cell back with its clash
+abbrev pub Keeps : Keys → Sorted → Row → Option LeftCell → Filling → Type 0
+Keeps t s r None f = (fate_of t s.kept r ≡ None) × Shows t (with_fate s r None) f
+Keeps t s r (Some l) f = (fate_of t s.kept r ≡ Some l.fate) × (row_of l.cell ≡ r) × Shows t s f

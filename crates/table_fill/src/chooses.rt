@@ -1,24 +1,25 @@
 //! Sorting out the cells of a table.
 
-ghost use Rattle.std.specs.Prelude.{◌≡◌, ◌<◌, List, [], IfOk, IsErr, OnOk, map, Option, vec_len};
+ghost use Rattle.std.specs.Prelude.{◌≡◌, ◌<◌, List, [], IfOk, IsErr, OnOk, map, Option, true, vec_len};
 ghost use Rattle.std.specs.BTreeMap.{get, insert_entry};
 ghost use Rattle.std.specs.Cmp.Lexicographic.{slice_cmp};
 ghost use Rattle.std.specs.Option.{option_map};
 ghost use Rattle.key_order.specs.Order.{value_cmp};
-ghost use Rattle.table_shape.specs.Keys.{Keys, key_of, keys_of, keys_seen};
+ghost use Rattle.table_shape.specs.Keys.{Keys, fits, key_of, keys_of, keys_seen};
 ghost use Rattle.table_shape.specs.Seen.{shape_seen};
 ghost use Rattle.page_walk.specs.Cells.{row_of};
 ghost use Rattle.table_fill.specs.Chosen.{IsChosen};
 ghost use Rattle.table_fill.specs.Fates.{Sorted, fate_of, first_clash, first_unordered, held, place_of, with_cell, with_cells, with_fate};
-ghost use Rattle.table_fill.specs.Maps.{AreKeysOf, Shows, clash_by_keys};
+ghost use Rattle.table_fill.specs.Maps.{Keeps, Shows};
 
 use crate::fates::{Chosen, Fate, LeftCell};
 use crate::fits::{first_unordered, fits, key_of};
-use crate::maps::{KeyMap, add_all, find_among, keys_in, new_maps};
+use crate::maps::{KeyMap, new_maps, take_in};
 use key_order::FoldedKey;
 use page_walk::{Place, TakenCell};
 use std::alloc::{AllocError, Global};
 use std::collections::BTreeMap;
+use std::collections::btree_map::Entry;
 use table_shape::{TablePlan, TableShape, plan_keys};
 
 /// The kept rows in their order, where each stands by each key, and the cells that are no rows.
@@ -27,14 +28,6 @@ pub struct Filling<'a> {
     pub rows: BTreeMap<FoldedKey, TakenCell>,
     pub maps: Vec<KeyMap<'a>>,
     pub left: Vec<LeftCell>,
-}
-
-/// The keys of a cell that fits: that which orders the rows, and those with a number, none where a field of it
-/// is NULL.
-#[derive(Drop)]
-pub struct CellKeys {
-    pub first: FoldedKey,
-    pub others: Vec<Option<FoldedKey>>,
 }
 
 /// Sorts out the cells of a table, given in cell order: a cell that fits is a row exactly where it
@@ -141,50 +134,38 @@ fn take(
         now.left.push(LeftCell { cell, fate })?;
         return Ok(());
     }
-    let keys = keys_of(alloc, plan, &*now, &cell)?;
-    match clash_of(&*now, &keys) {
-        Some(fate) => now.left.push(LeftCell { cell, fate })?,
-        None => keep(cell, keys, now)?,
+    if let Some(left) = keep(alloc, plan, cell, now)? {
+        now.left.push(left)?;
     }
     Ok(())
 }
 
-// The keys of a cell, each made once.
-fn keys_of(
+// Takes in a cell that fits as a row; one that clashes is given back. One search finds the row with which it
+// clashes by the key that orders the rows, or else the place where it goes.
+fn keep(
     alloc: Global,
     plan: &TablePlan,
-    now: &Filling<'_>,
-    cell: &TakenCell,
-) -> Result<CellKeys, AllocError>
-    ensures { IfOk result (AreKeysOf (keys_seen plan.now) now.now.maps.items (row_of cell.now)) }
+    cell: TakenCell,
+    now: &mut Filling<'_>,
+) -> Result<Option<LeftCell>, AllocError>
+    ensures { (s : Sorted) → Shows (keys_seen plan.now) s now.old
+        → fits (keys_seen plan.now) (held (row_of cell)) ≡ true
+        → IfOk result (λ left. Keeps (keys_seen plan.now) s (row_of cell) left now.new) }
 {
-    Ok(CellKeys {
-        first: key_of(alloc, plan.first.as_slice(), cell)?,
-        others: keys_in(alloc, now.maps.as_slice(), cell)?,
-    })
-}
-
-// Why a cell with these keys that fits is no row; none where it is one.
-fn clash_of(now: &Filling<'_>, keys: &CellKeys) -> Option<Fate>
-    ensures { result ≡ clash_by_keys now.now keys.now }
-{
-    match now.rows.get(&keys.first) {
-        Some(row) => Some(Fate::Clash {
-            earlier: row.place,
-            key: 0,
-        }),
-        None => find_among(now.maps.as_slice(), keys.others.as_slice()),
+    let key = key_of(alloc, plan.first.as_slice(), &cell)?;
+    match now.rows.entry(key)? {
+        Entry::Occupied(row) => {
+            let earlier = row.get().place;
+            let fate = Fate::Clash { earlier, key: 0 };
+            Ok(Some(LeftCell { cell, fate }))
+        }
+        Entry::Vacant(free) => {
+            let row = free.insert_entry(cell);
+            let Some(fate) = take_in(alloc, now.maps.as_mut_slice(), row.get())? else {
+                return Ok(None);
+            };
+            let cell = row.remove();
+            Ok(Some(LeftCell { cell, fate }))
+        }
     }
-}
-
-// Takes the cell with these keys in as a row.
-fn keep(cell: TakenCell, keys: CellKeys, now: &mut Filling<'_>) -> Result<(), AllocError>
-    ensures { (t : Keys) (s : Sorted) → Shows t s now.old
-        → AreKeysOf t now.old.maps.items (row_of cell) keys
-        → OnOk result (Shows t (with_fate s (row_of cell) None) now.new) }
-{
-    let CellKeys { first, others } = keys;
-    add_all(now.maps.as_mut_slice(), others, cell.place)?;
-    now.rows.insert(first, cell)?;
-    Ok(())
 }

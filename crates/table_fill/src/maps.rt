@@ -8,7 +8,7 @@ ghost use Rattle.key_order.specs.Order.{value_cmp};
 ghost use Rattle.table_shape.specs.Keys.{has_null, key_of, parts_seen};
 ghost use Rattle.page_walk.specs.Cells.{row_of};
 ghost use Rattle.table_fill.specs.Fates.{held, place_of};
-ghost use Rattle.table_fill.specs.Maps.{AddedBy, AddedByAll, Holds, found_by, key_in, keys_in, place_by};
+ghost use Rattle.table_fill.specs.Maps.{AddedBy, AddedByAll, Holds, found_by, key_in, keys_in, place_by, TakeIn};
 
 use crate::fates::Fate;
 use crate::fits::{has_null, key_of};
@@ -56,6 +56,22 @@ impl<'a> KeyMap<'a> {
         }
         Ok(())
     }
+}
+
+/// Takes a cell in as a row, unless it clashes by one of the keys; then the clash with the least is told.
+pub fn take_in(
+    alloc: Global,
+    maps: &mut [KeyMap<'_>],
+    cell: &TakenCell,
+) -> Result<Option<Fate>, AllocError>
+    ensures { IfOk result (λ fate. TakeIn (row_of cell.now) fate maps.old maps.new) }
+{
+    let keys = keys_in(alloc, &*maps, cell)?;
+    if let Some(fate) = find_among(&*maps, keys.as_slice()) {
+        return Ok(Some(fate));
+    }
+    add_all(maps, keys, cell.place)?;
+    Ok(None)
 }
 
 /// The key of a cell in each map.

@@ -1,6 +1,6 @@
 -- The children of a page as a list are its children as a relation, and a walk gives the pages of the tree.
 use Rattle.std.proofs.Common.{◌≡◌, ℕ, ◌≤◌, Bool, true, false, ◌&&◌, Option, Some, None, option_map, List, [], ◌∷◌, length, refl, sym, ap, ◌∙◌, subst, inl, inr, arith}
-use Rattle.std.specs.Prelude.{ℤ, pos, negsuc, if◌then◌else◌, filter}
+use Rattle.std.specs.Prelude.{ℤ, pos, negsuc, filter}
 use Rattle.std.proofs.lemmas.Bool.{false≢true, and_from, and_parts, and_right, cases_Bool}
 use Rattle.std.proofs.lemmas.Bool.Decides.{eqb_tells}
 use Rattle.page_access.specs.Pages.{File}

@@ -43,6 +43,7 @@ pub fn list_data<S: Source, R: Sink>(
     let mut bytes = vec![in alloc; 0; geo.page_size as usize]?;
     let buffer = bytes.as_mut_slice();
     let mut accepted = Accepted::new(alloc, geo.usable)?;
+    let mut cells = Vec::new(alloc);
     for done in 0..geo.pages {
         list_cells(
             alloc,
@@ -53,6 +54,7 @@ pub fn list_data<S: Source, R: Sink>(
             done + 1,
             buffer,
             &mut accepted,
+            &mut cells,
             to,
         )?;
     }
@@ -60,7 +62,7 @@ pub fn list_data<S: Source, R: Sink>(
 }
 
 // Lists the cells of page `page` at their turns. `buffer` is for the bytes of the page, `accepted` for those of its
-// cells.
+// cells, `cells` for what becomes of them.
 fn list_cells<S: Source, R: Sink>(
     alloc: Global,
     src: &mut S,
@@ -70,6 +72,7 @@ fn list_cells<S: Source, R: Sink>(
     page: u32,
     buffer: &mut [u8],
     accepted: &mut Accepted,
+    cells: &mut Vec<CellOutcome>,
     to: &mut R,
 ) -> Result<(), ListFault>
     requires page_least { 1 ≤ page }
@@ -95,11 +98,11 @@ fn list_cells<S: Source, R: Sink>(
     ensures reads { ReadsEach (S.bytes src.old) geo.now table.old table.new
         (S.reads src.old) (S.reads src.new) (if is_ok result then 1 else 2) }
 {
-    let mut cells = Vec::new(alloc);
+    cells.clear();
     cells_with(
-        alloc, src, geo, cache, table, page, buffer, accepted, &mut cells,
+        alloc, src, geo, cache, table, page, buffer, accepted, cells,
     )?;
-    put_cells(to, page, &cells)?;
+    put_cells(to, page, cells)?;
     Ok(())
 }
 

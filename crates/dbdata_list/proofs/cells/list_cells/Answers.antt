@@ -18,6 +18,6 @@ pub returns-in_err-put_cells-clause-text : goal.returns-in_err-put_cells-clause-
 returns-in_err-put_cells-clause-text g c =
     put_failed _ c.from_residual-in_err-put_cells.result _ _ _ _ _ _ _ c.from_residual-in_err-put_cells.ensures.0
     (passed_back _ _ Sink c.from_residual-in_err-put_cells.ensures.1 refl)
-    (cells_told _ c.args.geo.now c.args.page (unused c.args.table.now) c.new-cells.result.items c.cells_with.new.to.items c.deref.result.now
-    c.new-cells.ensures.items c.deref.ensures.value c.in_ok-cells_with.ensures.value)
+    (cells_told _ c.args.geo.now c.args.page (unused c.args.table.now) c.clear.new.self.items c.cells_with.new.to.items c.deref.result.now
+    c.clear.ensures.items c.deref.ensures.value c.in_ok-cells_with.ensures.value)
     c.in_err-put_cells.ensures.writes

@@ -99,9 +99,7 @@ fn list_cells<S: Source, R: Sink>(
         (S.reads src.old) (S.reads src.new) (if is_ok result then 1 else 2) }
 {
     cells.clear();
-    cells_with(
-        alloc, src, geo, cache, table, page, buffer, accepted, cells,
-    )?;
+    cells_with(alloc, src, geo, cache, table, page, buffer, accepted, cells)?;
     put_cells(to, page, cells)?;
     Ok(())
 }

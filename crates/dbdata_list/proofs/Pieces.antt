@@ -5,13 +5,12 @@ use Rattle.std.proofs.Math.Seq.{take-append_seam}
 use Rattle.std.proofs.lemmas.List.{drop_more}
 use Rattle.record_core.specs.declared.values.Value.{Value}
 use Rattle.line_text.specs.Text.{newline}
-use Rattle.dbdata_list.specs.Text.{cell_text, field_line, field_text, fields_text, pointer_line, pointer_lines, word_line}
+use Rattle.dbdata_list.specs.Text.{cell_text, field_line, fields_text, pointer_line, pointer_lines, word_line}
 
 -- a line whose word is put by itself
-pub word_parts : (place field name word : List ℕ) →
-    word_line place field name word ≡ (field_text place field ++ name) ++ (word ++ newline)
+pub word_parts : (start name word : List ℕ) → word_line start name word ≡ (start ++ name) ++ (word ++ newline)
 unfolding word_line
-word_parts place field name word = simp append_assoc
+word_parts start name word = simp append_assoc
 
 -- a line that is cut back holds what it began with
 pub cut_back : (start : List ℕ) (cell n : ℕ) → n ≡ length start → take n (cell_text start cell) ≡ start

@@ -17,13 +17,17 @@ cell_text start cell = start ++ (decimal cell ++ codes " ")
 unfoldable pub field_text : List ℕ → List ℕ → List ℕ
 field_text place field = place ++ (field ++ codes " ")
 
+-- the line of a value, behind its beginning
+unfoldable pub value_line : List ℕ → Value → List ℕ
+value_line start value = start ++ (value_text value ++ newline)
+
+-- the line of a value that is a word behind the name of its type
+unfoldable pub word_line : List ℕ → List ℕ → List ℕ → List ℕ
+word_line start name word = start ++ ((name ++ word) ++ newline)
+
 -- the line of a field
 unfoldable pub field_line : List ℕ → List ℕ → Value → List ℕ
-field_line place field value = field_text place field ++ (value_text value ++ newline)
-
--- the line of a field whose value is a word behind the name of its type
-unfoldable pub word_line : List ℕ → List ℕ → List ℕ → List ℕ → List ℕ
-word_line place field name word = field_text place field ++ ((name ++ word) ++ newline)
+field_line place field value = value_line (field_text place field) value
 
 -- the lines of the fields from field i on
 abbrev pub fields_text : List ℕ → ℕ → List Value → List ℕ

@@ -6,12 +6,15 @@ ghost use Rattle.hex.specs.Hex.{encode_lower};
 ghost use Rattle.page_access.specs.Outside.{Writes, KeepsSink};
 ghost use Rattle.record_core.specs.declared.values.Value.TheVariants.{Null, Whole};
 ghost use Rattle.line_text.specs.Text.{newline};
-ghost use Rattle.dbdata_list.specs.Text.{cell_text, page_text, field_line, field_text, fields_text, pointer_line, row_text, rowid_text, unread_line, word_line};
+ghost use Rattle.dbdata_list.specs.Text.{cell_text, page_text, field_line, field_text, fields_text, pointer_line, row_text, rowid_text, unread_line, value_line, word_line};
 
 use itoa::Buffer;
 use line_text::{Line, add, put_hex};
 use page_access::{Failed, Sink};
 use record_core::Value;
+
+// How many bytes a line has room for, in hexadecimal digits.
+const FEW: usize = 24;
 
 /// The beginning of the lines of a page.
 pub(crate) fn page_start(page: u32) -> Line
@@ -70,9 +73,23 @@ fn put_rowid<R: Sink>(to: &mut R, line: &mut Line, rowid: Option<i64>) -> Result
     ensures line { line.new.items ≡ line.old.items }
 {
     match rowid {
-        Some(rowid) => put_whole(to, line, b"-1", rowid),
+        Some(rowid) => put_rowid_line(to, line, rowid),
         None => Ok(()),
     }
+}
+
+// Puts the line of a rowid.
+#[tactic(auto, unfolding(crate::specs::Text::field_line, crate::specs::Text::field_text))]
+fn put_rowid_line<R: Sink>(to: &mut R, line: &mut Line, rowid: i64) -> Result<(), Failed>
+    requires { array_vec_len line.old ≤ 42 }
+    ensures writes { Writes (R.bytes to.old) (R.bytes to.new) (R.faults to.old) (R.faults to.new)
+        (field_line line.old.items (codes "-1") (Whole rowid)) result }
+    ensures kept { KeepsSink R.created R.finished R.faults to.old to.new }
+    ensures line { line.new.items ≡ line.old.items }
+{
+    let place = line.len();
+    add(line, b"-1 ");
+    put_whole(to, line, place, rowid)
 }
 
 // Puts the lines of the fields.
@@ -90,6 +107,7 @@ fn put_fields<R: Sink>(to: &mut R, line: &mut Line, values: &[Value]) -> Result<
 }
 
 // Puts the line of a field with this number, counted from 0.
+#[tactic(auto, unfolding(crate::specs::Text::field_line, crate::specs::Text::field_text))]
 fn put_numbered<R: Sink>(
     to: &mut R,
     line: &mut Line,
@@ -102,123 +120,155 @@ fn put_numbered<R: Sink>(
     ensures kept { KeepsSink R.created R.finished R.faults to.old to.new }
     ensures line { line.new.items ≡ line.old.items }
 {
-    put_field(to, line, Buffer::new().format(field).as_bytes(), value)
+    let place = line.len();
+    add_field(line, field);
+    put_field(to, line, place, value)
 }
 
-// Puts the line of a field.
-#[tactic(auto, unfolding(crate::specs::Text::field_line, crate::specs::Text::word_line))]
+// Appends the number of a field. Most have one digit.
+#[tactic(auto, unfolding(crate::specs::Text::field_text), using(std::proofs::lemmas::Fmt::decimal_digit))]
+fn add_field(line: &mut Line, field: usize)
+    requires { array_vec_len line.old ≤ 42 }
+    ensures text { line.new.items ≡ field_text line.old.items (decimal field) }
+    ensures len { array_vec_len line.new ≤ 63 }
+    ensures more { array_vec_len line.old ≤ array_vec_len line.new }
+{
+    if field < 10 {
+        add(line, &[b'0' + field as u8, b' ']);
+    } else {
+        add(line, Buffer::new().format(field).as_bytes());
+        add(line, b" ");
+    }
+}
+
+// Each of the next functions puts the line of a value behind the number of its field, which the line holds, and
+// cuts the line back to so many bytes.
+
+// Puts the line of a value.
+#[tactic(auto, unfolding(crate::specs::Text::value_line, crate::specs::Text::word_line))]
 fn put_field<R: Sink>(
     to: &mut R,
     line: &mut Line,
-    field: &[u8],
+    place: usize,
     value: &Value,
 ) -> Result<(), Failed>
-    requires line { array_vec_len line.old ≤ 42 }
-    requires field { length field.now ≤ 20 }
+    requires line { array_vec_len line.old ≤ 63 }
+    requires place { place ≤ array_vec_len line.old }
     ensures writes { Writes (R.bytes to.old) (R.bytes to.new) (R.faults to.old) (R.faults to.new)
-        (field_line line.old.items field.now value.now) result }
+        (value_line line.old.items value.now) result }
     ensures kept { KeepsSink R.created R.finished R.faults to.old to.new }
-    ensures line { line.new.items ≡ line.old.items }
+    ensures line { line.new.items ≡ take place line.old.items }
 {
     match value {
-        Value::Null => put_null(to, line, field),
-        Value::Whole(number) => put_whole(to, line, field, *number),
-        Value::Real8(bytes) => put_bytes(to, line, field, b"real:", bytes),
-        Value::Text(bytes) => put_bytes(to, line, field, b"text:", bytes.as_slice()),
-        Value::Blob(bytes) => put_bytes(to, line, field, b"blob:", bytes.as_slice()),
+        Value::Null => put_null(to, line, place),
+        Value::Whole(number) => put_whole(to, line, place, *number),
+        Value::Real8(bytes) => put_bytes(to, line, place, b"real:", bytes),
+        Value::Text(bytes) => put_bytes(to, line, place, b"text:", bytes.as_slice()),
+        Value::Blob(bytes) => put_bytes(to, line, place, b"blob:", bytes.as_slice()),
     }
 }
 
 // Puts the line of a NULL.
-#[tactic(auto, unfolding(crate::specs::Text::field_line, crate::specs::Text::word_line))]
-fn put_null<R: Sink>(to: &mut R, line: &mut Line, field: &[u8]) -> Result<(), Failed>
-    requires line { array_vec_len line.old ≤ 42 }
-    requires field { length field.now ≤ 20 }
+#[tactic(auto, unfolding(crate::specs::Text::value_line))]
+fn put_null<R: Sink>(to: &mut R, line: &mut Line, place: usize) -> Result<(), Failed>
+    requires line { array_vec_len line.old ≤ 63 }
+    requires place { place ≤ array_vec_len line.old }
     ensures writes { Writes (R.bytes to.old) (R.bytes to.new) (R.faults to.old) (R.faults to.new)
-        (field_line line.old.items field.now Null) result }
+        (value_line line.old.items Null) result }
     ensures kept { KeepsSink R.created R.finished R.faults to.old to.new }
-    ensures line { line.new.items ≡ line.old.items }
+    ensures line { line.new.items ≡ take place line.old.items }
 {
-    put_word(to, line, field, b"null", b"")
+    add(line, b"null\n");
+    put_line(to, line, place)
 }
 
 // Puts the line of a whole number.
-#[tactic(auto, unfolding(crate::specs::Text::field_line, crate::specs::Text::word_line))]
-fn put_whole<R: Sink>(to: &mut R, line: &mut Line, field: &[u8], number: i64) -> Result<(), Failed>
-    requires line { array_vec_len line.old ≤ 42 }
-    requires field { length field.now ≤ 20 }
+#[tactic(auto, unfolding(crate::specs::Text::value_line))]
+fn put_whole<R: Sink>(to: &mut R, line: &mut Line, place: usize, number: i64) -> Result<(), Failed>
+    requires line { array_vec_len line.old ≤ 63 }
+    requires place { place ≤ array_vec_len line.old }
     ensures writes { Writes (R.bytes to.old) (R.bytes to.new) (R.faults to.old) (R.faults to.new)
-        (field_line line.old.items field.now (Whole number)) result }
+        (value_line line.old.items (Whole number)) result }
     ensures kept { KeepsSink R.created R.finished R.faults to.old to.new }
-    ensures line { line.new.items ≡ line.old.items }
+    ensures line { line.new.items ≡ take place line.old.items }
 {
-    put_word(
-        to,
-        line,
-        field,
-        b"int:",
-        Buffer::new().format(number).as_bytes(),
-    )
-}
-
-// Puts a line that ends in a short word behind the name of its type.
-#[tactic(auto, unfolding(crate::specs::Text::field_text, crate::specs::Text::word_line))]
-fn put_word<R: Sink>(
-    to: &mut R,
-    line: &mut Line,
-    field: &[u8],
-    name: &[u8],
-    word: &[u8],
-) -> Result<(), Failed>
-    requires line { array_vec_len line.old ≤ 42 }
-    requires field { length field.now ≤ 20 }
-    requires word { length name.now + length word.now ≤ 64 }
-    ensures writes { Writes (R.bytes to.old) (R.bytes to.new) (R.faults to.old) (R.faults to.new)
-        (word_line line.old.items field.now name.now word.now) result }
-    ensures kept { KeepsSink R.created R.finished R.faults to.old to.new }
-    ensures line { line.new.items ≡ line.old.items }
-{
-    let place = line.len();
-    add_head(line, field, name);
-    add(line, word);
+    add(line, b"int:");
+    add(line, Buffer::new().format(number).as_bytes());
     add(line, b"\n");
     put_line(to, line, place)
 }
 
-// Puts a line that ends in bytes, in hexadecimal digits behind the name of their type.
+// Puts a line that ends in bytes, in hexadecimal digits behind the name of their type: the line of a few bytes at once.
+#[tactic(auto, unfolding(crate::specs::Text::word_line))]
 fn put_bytes<R: Sink>(
     to: &mut R,
     line: &mut Line,
-    field: &[u8],
+    place: usize,
     name: &[u8],
     bytes: &[u8],
 ) -> Result<(), Failed>
-    requires line { array_vec_len line.old ≤ 42 }
-    requires field { length field.now ≤ 20 }
+    requires line { array_vec_len line.old ≤ 63 }
+    requires place { place ≤ array_vec_len line.old }
     requires name { length name.now ≤ 8 }
     ensures writes { Writes (R.bytes to.old) (R.bytes to.new) (R.faults to.old) (R.faults to.new)
-        (word_line line.old.items field.now name.now (encode_lower bytes.now)) result }
+        (word_line line.old.items name.now (encode_lower bytes.now)) result }
     ensures kept { KeepsSink R.created R.finished R.faults to.old to.new }
-    ensures line { line.new.items ≡ line.old.items }
+    ensures line { line.new.items ≡ take place line.old.items }
 {
-    put_name(to, line, field, name)?;
+    if bytes.len() > FEW {
+        return put_long(to, line, place, name, bytes);
+    }
+    add(line, name);
+    add_hex(line, bytes);
+    add(line, b"\n");
+    put_line(to, line, place)
+}
+
+// Appends the hexadecimal digits of a few bytes.
+fn add_hex(line: &mut Line, bytes: &[u8])
+    requires few { length bytes.now ≤ 24 }
+    requires room { array_vec_len line.old ≤ 80 }
+    ensures text { line.new.items ≡ line.old.items ++ encode_lower bytes.now }
+    ensures len { array_vec_len line.new ≤ array_vec_len line.old + 48 }
+{
+    let mut digits = [0; 2 * FEW];
+    let room = &mut digits[..2 * bytes.len()];
+    hex::encode_to_slice(bytes, room).unwrap();
+    add(line, room);
+}
+
+// The same in pieces, of however many bytes.
+fn put_long<R: Sink>(
+    to: &mut R,
+    line: &mut Line,
+    place: usize,
+    name: &[u8],
+    bytes: &[u8],
+) -> Result<(), Failed>
+    requires line { array_vec_len line.old ≤ 63 }
+    requires place { place ≤ array_vec_len line.old }
+    requires name { length name.now ≤ 8 }
+    ensures writes { Writes (R.bytes to.old) (R.bytes to.new) (R.faults to.old) (R.faults to.new)
+        (word_line line.old.items name.now (encode_lower bytes.now)) result }
+    ensures kept { KeepsSink R.created R.finished R.faults to.old to.new }
+    ensures line { line.new.items ≡ take place line.old.items }
+{
+    put_name(to, line, place, name)?;
     put_hex(to, bytes)?;
     to.put(b"\n")
 }
 
-// Puts the beginning of a field's line, up to the name of its type.
-#[tactic(auto, unfolding(crate::specs::Text::field_text))]
-fn put_name<R: Sink>(to: &mut R, line: &mut Line, field: &[u8], name: &[u8]) -> Result<(), Failed>
-    requires line { array_vec_len line.old ≤ 42 }
-    requires field { length field.now ≤ 20 }
+// Puts the beginning of a line, up to the name of the type of its value.
+fn put_name<R: Sink>(to: &mut R, line: &mut Line, place: usize, name: &[u8]) -> Result<(), Failed>
+    requires line { array_vec_len line.old ≤ 63 }
+    requires place { place ≤ array_vec_len line.old }
     requires name { length name.now ≤ 8 }
     ensures writes { Writes (R.bytes to.old) (R.bytes to.new) (R.faults to.old) (R.faults to.new)
-        (field_text line.old.items field.now ++ name.now) result }
+        (line.old.items ++ name.now) result }
     ensures kept { KeepsSink R.created R.finished R.faults to.old to.new }
-    ensures line { line.new.items ≡ line.old.items }
+    ensures line { line.new.items ≡ take place line.old.items }
 {
-    let place = line.len();
-    add_head(line, field, name);
+    add(line, name);
     put_line(to, line, place)
 }
 
@@ -232,21 +282,6 @@ fn put_line<R: Sink>(to: &mut R, line: &mut Line, place: usize) -> Result<(), Fa
     let done = to.put(line.as_slice());
     line.truncate(place);
     done
-}
-
-// Appends the number of a field and the name of the type of its value.
-#[tactic(auto, unfolding(crate::specs::Text::field_text))]
-fn add_head(line: &mut Line, field: &[u8], name: &[u8])
-    requires line { array_vec_len line.old ≤ 42 }
-    requires field { length field.now ≤ 20 }
-    requires name { length name.now ≤ 64 }
-    ensures text { line.new.items ≡ field_text line.old.items field.now ++ name.now }
-    ensures len { array_vec_len line.new
-        ≡ array_vec_len line.old + length field.now + 1 + length name.now }
-{
-    add(line, field);
-    add(line, b" ");
-    add(line, name);
 }
 
 /// Puts the line of a cell that is not read. The line begins with the number of the page when this is called, and is
